@@ -1,0 +1,12 @@
+-- `graph::instance::PackedInstance::new` meets its contract: of no keys nothing is unpacked, and the arrays have the limits' lengths. Assumes nothing.
+use mathlib.Core.Path.{refl}
+use Rattle.graph.specs.Packed.{unpackInstance}
+use Rattle.graph.proofs.instance.PackedInstance.new.Statement.{statement}
+use Rattle.graph.proofs.instance.PackedInstance.new.Tie as tie
+
+returns : tie.Need-returns
+unfolding unpackInstance
+returns c = record { empty = refl; nodesRoom = refl; edgesRoom = refl }
+
+pub new-spec : {M : Type 1} → statement M
+new-spec = tie.close (tie.spec returns)

@@ -1,0 +1,6 @@
+// How the engine stores a scheme, an instance, a pattern and the undo history: plain data, packed keys in rising order, and how many of
+// them stand. specs/Packed.antt says what each value means. A limit is an associated constant.
+pub mod history;
+pub mod instance;
+pub mod pattern;
+pub mod scheme;
