@@ -2,16 +2,17 @@
 -- fourteen refusals.
 use Prim.Native.Nat.{ℕ}
 use mathlib.Core.Path.{_≡_, refl}
+use mathlib.Core.Bool.{Bool, true, false, _&&_}
 use mathlib.Core.List.{List, [], _∷_, _++_, map}
 use lib.ListN.{length, take, replicate}
 use Rattle.lists.specs.Lists.{each, countFrom}
-use Rattle.model.specs.Graph.{Declared, Triple, Scheme, Node, Instance}
+use Rattle.model.specs.Graph.{Declared, Triple, Scheme, Node, Instance, conforms, patternConforms, schemeListed, instanceListed, patternListed}
 use Rattle.model.specs.Operations.{applied}
 use Rattle.model.specs.Refusals.{Outcome, accepted, refused, _>>=_}
 use Rattle.model.specs.Files.RuleText.{readRule}
-use Rattle.model.specs.Record.{Record, shut, Call, Open, Apply, Undo, First, After, Save, step}
+use Rattle.model.specs.Record.{Record, shut, opened, Call, Open, Apply, Undo, First, After, Save, step}
 use Rattle.model.specs.Trial.{trial}
-use Rattle.model.specs.Examples.{computing, lines, J, J7, J65535, twoFree, empty, E7Rule, opening, told, answers}
+use Rattle.model.specs.Examples.{computing, lines, J, J7, J65535, R, twoFree, empty, E7Rule, opening, told, answers}
 
 -- # Drawings at the limits
 -- class 0 and class 1 are object classes; name 0 is functional and the others are multivalued; every name may join class 0 with class 0, and
@@ -58,10 +59,34 @@ sizes (refused r) = told (refused r)
 abbrev sizesAfter : (rule : List ℕ) → Instance → List ℕ
 sizesAfter rule d = sizes (readRule wide rule >>= λ r. applied wide r d)
 
+abbrev fits : Outcome Bool → Bool
+fits (accepted b) = b
+fits (refused r) = false
+
+-- what holds of an open record's scheme and instance
+abbrev holds : (Scheme → Instance → Bool) → Record → Bool
+holds test shut = false
+holds test (opened s d cs) = test s d
+
+-- instances of class-0 nodes: numbers 2 and 1 out of order; an edge with no target; a value on an object node; class 2, which is not declared
+abbrev badlyListed : List Instance
+badlyListed =
+    record { nodes = record { number = 2; class = 0; value = 0 } ∷ record { number = 1; class = 0; value = 0 } ∷ []; edges = [] }
+    ∷ record { nodes = nodesTo 1; edges = record { source = 0; name = 1; target = 1 } ∷ [] }
+    ∷ record { nodes = record { number = 1; class = 0; value = 5 } ∷ []; edges = [] }
+    ∷ record { nodes = record { number = 1; class = 2; value = 0 } ∷ []; edges = [] }
+    ∷ []
+
 abbrev answer : Record → Call → List ℕ
 answer r c = told (step r c .answer)
 
 pub record Cases : Type 0 where
+  -- J conforms, within the limits and in order, and so does the pattern of R in it; what is badly listed is told
+  pub listed : holds (λ s d. schemeListed s && instanceListed s d && conforms s d) (opening J) ≡ true
+  pub pattern-listed :
+      holds (λ s d. fits (readRule s R >>= λ r. accepted (patternListed s (r .pattern) && patternConforms s (r .pattern)))) (opening J)
+      ≡ true
+  pub not-listed : map (instanceListed wide) badlyListed ≡ false ∷ false ∷ false ∷ false ∷ []
   -- a node just added is no image: node 1 gets a node, and that one gets none
   pub added-unmatched :
       trial (lines "class=0,0 name=0,0 may=0,0,0 node=1,0,0") (lines "op=1 pnode=0,0,0 make=0 arm=0,0")
@@ -138,9 +163,12 @@ pub record Cases : Type 0 where
       ∷ []
 
 pub cases : Cases
-unfolding computing
+unfolding computing schemeListed instanceListed patternListed
 cases =
     record {
+      listed = refl;
+      pattern-listed = refl;
+      not-listed = refl;
       added-unmatched = refl;
       extra-targets = refl;
       no-a-edge = refl;

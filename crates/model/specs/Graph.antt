@@ -103,7 +103,7 @@ module _ {Value : Type 0} (equal : Value → Value → Bool) where
       not (eqb (n .number) (m .number)) && isValue s (n .class) && eqb (n .class) (m .class) && equal (n .value) (m .value)
 
   -- "each edge has a permitted triple of classes, no node has two edges of one functional name, and no two nodes share both class and
-  -- value in a value class"
+  -- value in a value class. House: nothing more is required."
   unfoldable pub conformsBy : Scheme → Graph Value → Bool
   conformsBy s g =
       all (permits s g) (g .edges)
@@ -125,6 +125,7 @@ abbrev pub patternConforms : Scheme → Pattern → Bool
 patternConforms s p = conformsBy bothGiven s p
 
 -- # Limits and order
+-- rising numbers below a limit, each of a kind
 abbrev pub declarations : ℕ → List Declared → Bool
 declarations below ds = rising (map (λ d. d .number ∷ []) ds) && all (λ d. ltb (d .number) below && ltb (d .kind) Limits.kinds) ds
 
@@ -146,23 +147,22 @@ graphListed mostNodes mostEdges g =
     && rising (map row (g .edges))
     && all (λ e. stands g (e .source) && stands g (e .target)) (g .edges)
 
+-- the value is one that a node of the class may have
+abbrev pub inValues : Scheme → ℕ → ℕ → Bool
+inValues s c v = isValue s c && leb v Limits.lastValue || isObject s c && eqb v 0
+
 unfoldable pub instanceListed : Scheme → Instance → Bool
 instanceListed s d =
     graphListed Limits.nodes Limits.edges d
-    && all
-    (λ n. leb (n .number) Limits.lastNumber
-    && declares (s .classes) (n .class)
-    && leb (n .value) Limits.lastValue
-    && (isValue s (n .class) || eqb (n .value) 0))
-    (d .nodes)
+    && all (λ n. leb (n .number) Limits.lastNumber && inValues s (n .class) (n .value)) (d .nodes)
 
 -- a value is given only in a value class
-abbrev pub mayHave : Bool → Option ℕ → Bool
-mayHave valued none = true
-mayHave valued (some v) = valued && leb v Limits.lastValue
+abbrev pub givenIn : Scheme → ℕ → Option ℕ → Bool
+givenIn s c none = declares (s .classes) c
+givenIn s c (some v) = isValue s c && leb v Limits.lastValue
 
 unfoldable pub patternListed : Scheme → Pattern → Bool
 patternListed s p =
     graphListed Limits.patternNodes Limits.patternEdges p
     && same (map (λ n. n .number) (p .nodes)) (countFrom 0 (length (p .nodes)))
-    && all (λ n. declares (s .classes) (n .class) && mayHave (isValue s (n .class)) (n .value)) (p .nodes)
+    && all (λ n. givenIn s (n .class) (n .value)) (p .nodes)

@@ -34,7 +34,7 @@ pub record Rule : Type 0 where
   pub action : Action
 
 -- # New nodes
--- "a new node's number is the largest number standing plus 1, or 0 in an empty drawing"
+-- "House: a new node's number is the largest number standing plus 1, or 0 in an empty drawing"
 abbrev pub nextNumber : List (Node ℕ) → ℕ
 nextNumber [] = 0
 nextNumber (n ∷ ns) = max (suc (n .number)) (nextNumber ns)
@@ -64,14 +64,14 @@ nodeAddition K arms ms d =
     inTurn ms (λ m now. cond (served K (armsAt m arms) now) (accepted now) (withNode K (armsAt m arms) now)) d
 
 -- # Edges
--- an edge at its place among rising edges, once
-abbrev pub insert : Triple → List Triple → List Triple
-insert e [] = e ∷ []
-insert e (f ∷ fs) = cond (before (row e) (row f)) (e ∷ f ∷ fs) (cond (same (row e) (row f)) (f ∷ fs) (f ∷ insert e fs))
+-- an edge joined to rising edges, at its place, once; edges joined one after the other
+abbrev pub joinEdge : Triple → List Triple → List Triple
+joinEdge e [] = e ∷ []
+joinEdge e (f ∷ fs) = cond (before (row e) (row f)) (e ∷ f ∷ fs) (cond (same (row e) (row f)) (f ∷ fs) (f ∷ joinEdge e fs))
 
-abbrev pub union : List Triple → List Triple → List Triple
-union [] es = es
-union (e ∷ new) es = union new (insert e es)
+abbrev pub joinEdges : List Triple → List Triple → List Triple
+joinEdges [] es = es
+joinEdges (e ∷ new) es = joinEdges new (joinEdge e es)
 
 -- the images of edges between pattern nodes, of all matchings
 abbrev pub images : List Triple → List (List ℕ) → List Triple
@@ -84,7 +84,7 @@ unlessTorn none d = accepted d
 
 unfoldable pub edgeAddition : Scheme → List Triple → List (List ℕ) → Instance → Outcome Instance
 edgeAddition s ts ms d =
-    let es = union (images ts ms) (d .edges) in
+    let es = joinEdges (images ts ms) (d .edges) in
     cond (ltb Limits.edges (length es)) (refused EdgesFull)
     (unlessTorn (find (λ n. torn s es (n .number)) (d .nodes)) (record { nodes = d .nodes; edges = es }))
 
@@ -118,7 +118,8 @@ groups es a is =
     let group = keep (λ j. sameSet (targets es a i) (targets es a j)) is in
     cond (eqb (group ! 0) i) (group ∷ []) [])
 
--- 5. "A group for which no K node of the old drawing has exactly that group as its b-targets gets a new K node with those b-edges."
+-- 5. "A group for which no K node of the old drawing has exactly that group as its b-targets gets a new K node with those b-edges. House:
+-- only images of p are grouped"
 unfoldable pub abstraction : ℕ → ℕ → ℕ → ℕ → List (List ℕ) → Instance → Outcome Instance
 abstraction p K a b ms old =
     let is = keep (member (imagesOf p ms)) (map (λ n. n .number) (old .nodes)) in
@@ -148,10 +149,9 @@ nodeRow n = n .number ∷ n .class ∷ n .value ∷ []
 
 abbrev pub difference : Instance → Instance → Difference
 difference d e =
-    record {
-      nodes = onlyIn (map nodeRow (d .nodes)) (map nodeRow (e .nodes));
-      edges = onlyIn (map row (d .edges)) (map row (e .edges));
-    }
+    let nodes : Instance → List (List ℕ) = λ g. map nodeRow (g .nodes) in
+    let edges : Instance → List (List ℕ) = λ g. map row (g .edges) in
+    record { nodes = onlyIn (nodes d) (nodes e); edges = onlyIn (edges d) (edges e) }
 
 -- "how many matchings the old drawing has, how many nodes and edges only the new drawing has, and how many only the old one has"
 unfoldable pub counts : Pattern → (old new : Instance) → Counts

@@ -9,7 +9,7 @@ use Rattle.lists.specs.Lists.{keep}
 use Rattle.lists.specs.Order.{same}
 use Rattle.lists.specs.Text.{bytes}
 use Rattle.model.specs.Refusals.{Outcome, accepted, refused, _>>=_, tableRow}
-use Rattle.model.specs.Files.DrawingFile.{readDrawing, schemeIn}
+use Rattle.model.specs.Files.DrawingFile.{readDrawing}
 use Rattle.model.specs.Files.RuleText.{readRule}
 use Rattle.model.specs.Examples.{computing, lines}
 
@@ -34,7 +34,7 @@ rule text number line =
     record {
       given = refusal
           (readDrawing (lines "class=0,0 class=1,1 class=2,0 name=0,0 name=1,1 name=2,0 may=0,0,1 may=0,1,0 may=0,2,0")
-          >>= λ ls. readRule (schemeIn ls) (lines text));
+          >>= λ f. readRule (f .scheme) (lines text));
       expected = number ∷ line ∷ [];
     }
 

@@ -10,7 +10,7 @@ use Rattle.model.specs.Graph.{Scheme, Instance}
 use Rattle.model.specs.Matching.{matchings, smallest, smallestAfter}
 use Rattle.model.specs.Operations.{applied, counts}
 use Rattle.model.specs.Refusals.{Outcome, accepted, refused, _>>=_}
-use Rattle.model.specs.Files.DrawingFile.{readDrawing, schemeIn, instanceIn, fileText}
+use Rattle.model.specs.Files.DrawingFile.{readDrawing, fileText}
 use Rattle.model.specs.Files.RuleText.{readRule}
 use Rattle.model.specs.declared.Counts.{Counts}
 use Rattle.model.specs.declared.Refusal.the-variants.{NotOpen, AlreadyOpen, NoCopy, BufferShort, LengthDiffers}
@@ -60,9 +60,9 @@ leaves r x = accepted (record { state = r; answer = x; buffer = [] })
 unfoldable pub accept : Record → Call → Outcome (Left Report)
 -- "Open, on an accepted file, sets scheme and drawing, with no copies."
 accept shut (Open file) = do
-  ls ← readDrawing file
-  let s = schemeIn ls
-  leaves (opened s (instanceIn ls) []) (declared (length (s .classes)) (length (s .names)))
+  f ← readDrawing file
+  let s = f .scheme
+  leaves (opened s (f .instance) []) (declared (length (s .classes)) (length (s .names)))
 -- "any call but open while shut"
 accept shut (Apply rule) = refused NotOpen
 accept shut Undo = refused NotOpen
@@ -72,7 +72,8 @@ accept shut (After rule list) = refused NotOpen
 accept shut (Save buffer) = refused NotOpen
 -- "open while open"
 accept (opened s d cs) (Open file) = refused AlreadyOpen
--- "Apply puts the old drawing at the head of the copies, drops a ninth, and sets the new drawing, even if equal."
+-- "Apply puts the old drawing at the head of the copies, drops a ninth, and sets the new drawing, even if equal." "House: the scheme doesn't
+-- grow after opening."
 accept (opened s d cs) (Apply rule) = do
   r ← readRule s rule
   new ← applied s r d
@@ -101,6 +102,7 @@ accept (opened s d cs) (Save buffer) =
     (accepted (record { state = opened s d cs; answer = saved n; buffer = file ++ drop n buffer }))
     (refused (BufferShort n))
 
+-- the buffer that a call lends, as it is before the call
 abbrev pub lent : Call → List ℕ
 lent (Open file) = []
 lent (Apply rule) = []

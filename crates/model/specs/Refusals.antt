@@ -3,22 +3,8 @@
 use Prim.Native.Nat.{ℕ}
 use mathlib.Core.List.{List, [], _∷_}
 use Rattle.model.specs.declared.Refusal.{Refusal}
-use Rattle.model.specs.declared.Refusal.the-variants.{
-  Malformed,
-  TooMany,
-  Undeclared,
-  Nonconforming,
-  BadAction,
-  NotOpen,
-  AlreadyOpen,
-  NoCopy,
-  NodesFull,
-  NumbersFull,
-  EdgesFull,
-  FunctionalClash,
-  BufferShort,
-  LengthDiffers,
-}
+use Rattle.model.specs.declared.Refusal.the-variants.{Malformed, TooMany, Undeclared, Nonconforming, BadAction, NotOpen, AlreadyOpen}
+use Rattle.model.specs.declared.Refusal.the-variants.{NoCopy, NodesFull, NumbersFull, EdgesFull, FunctionalClash, BufferShort, LengthDiffers}
 
 pub record Row : Type 0 where
   pub number : ℕ

@@ -8,7 +8,7 @@ use Rattle.lists.specs.Lists.{each, _!_}
 use Rattle.model.specs.Limits
 use Rattle.model.specs.Graph.{Declared, Scheme, Node, Instance, declares, isObject, isValue, row, stands, conforms}
 use Rattle.model.specs.Operations.{nodeRow}
-use Rattle.model.specs.Refusals.{Outcome}
+use Rattle.model.specs.Refusals.{Outcome, accepted, _>>=_}
 use Rattle.model.specs.Files.{Form, form, Line, Checks, checks, Format, numbersOf, read, lineText, tripleOf}
 
 pub data DrawingKey : Type 0 where
@@ -77,8 +77,12 @@ drawingFormat =
       complete = λ ls. true;
     }
 
-unfoldable pub readDrawing : List ℕ → Outcome DrawingLines
-readDrawing text = read drawingFormat text
+pub record Contents : Type 0 where
+  pub scheme : Scheme
+  pub instance : Instance
+
+unfoldable pub readDrawing : List ℕ → Outcome Contents
+readDrawing text = read drawingFormat text >>= λ ls. accepted (record { scheme = schemeIn ls; instance = instanceIn ls })
 
 -- # The file of a scheme and an instance
 abbrev pub declaredRow : Declared → List ℕ
