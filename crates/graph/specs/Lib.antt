@@ -1,1 +1,3 @@
+-- What stored values mean, and examples of it.
 pub mod Packed
+pub mod Examples

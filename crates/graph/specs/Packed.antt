@@ -2,7 +2,7 @@
 -- has to be well formed to mean something.
 use Prim.Native.Nat.{ℕ, suc, _/_, _%_, _^_}
 use mathlib.Core.Path.{_≡_}
-use mathlib.Core.Bool.{Bool, cond}
+use mathlib.Core.Bool.{cond}
 use mathlib.Core.Option.{Option, none, some}
 use mathlib.Core.List.{List, [], _∷_, map}
 use lib.ListN.{length, take}

@@ -3,10 +3,11 @@
 use Prim.Native.Nat.{ℕ}
 use mathlib.Core.Path.{_≡_, refl}
 use mathlib.Core.Bool.{Bool, true, false, _&&_}
+use mathlib.Core.Option.{none, some}
 use mathlib.Core.List.{List, [], _∷_, _++_, map}
 use lib.ListN.{length, take, replicate}
-use Rattle.lists.specs.Lists.{each, countFrom}
-use Rattle.model.specs.Graph.{Declared, Triple, Scheme, Node, Instance, conforms, patternConforms, schemeListed, instanceListed, patternListed}
+use Rattle.lists.specs.Lists.{any, each, countFrom}
+use Rattle.model.specs.Graph.{Declared, Triple, Scheme, Node, Instance, Pattern, conforms, patternConforms, schemeListed, instanceListed, patternListed}
 use Rattle.model.specs.Operations.{applied}
 use Rattle.model.specs.Refusals.{Outcome, accepted, refused, _>>=_}
 use Rattle.model.specs.Files.RuleText.{readRule}
@@ -28,12 +29,14 @@ wide =
 abbrev nodesTo : ℕ → List (Node ℕ)
 nodesTo k = map {B = Node ℕ} (λ i. record { number = i; class = 0; value = 0 }) (countFrom 0 k)
 
--- the first k edges between nodes 0, 1 and 2 that have multivalued names
+-- all triples between 0, 1 and 2 with `count` names from `first` on, in rising order; the first k edges with multivalued names
+abbrev triplesOf : (first count : ℕ) → List Triple
+triplesOf first count =
+    each (0 ∷ 1 ∷ 2 ∷ []) (λ i.
+    each (countFrom first count) (λ n. map {B = Triple} (λ j. record { source = i; name = n; target = j }) (0 ∷ 1 ∷ 2 ∷ [])))
+
 abbrev edgesTo : ℕ → List Triple
-edgesTo k =
-    take k
-    (each (0 ∷ 1 ∷ 2 ∷ []) (λ i.
-    each (countFrom 1 63) (λ n. map {B = Triple} (λ j. record { source = i; name = n; target = j }) (0 ∷ 1 ∷ 2 ∷ []))))
+edgesTo k = take k (triplesOf 1 63)
 
 abbrev withNodes : ℕ → Instance
 withNodes k = record { nodes = nodesTo k; edges = [] }
@@ -68,25 +71,78 @@ abbrev holds : (Scheme → Instance → Bool) → Record → Bool
 holds test shut = false
 holds test (opened s d cs) = test s d
 
--- instances of class-0 nodes: numbers 2 and 1 out of order; an edge with no target; a value on an object node; class 2, which is not declared
-abbrev badlyListed : List Instance
-badlyListed =
-    record { nodes = record { number = 2; class = 0; value = 0 } ∷ record { number = 1; class = 0; value = 0 } ∷ []; edges = [] }
-    ∷ record { nodes = nodesTo 1; edges = record { source = 0; name = 1; target = 1 } ∷ [] }
-    ∷ record { nodes = record { number = 1; class = 0; value = 5 } ∷ []; edges = [] }
-    ∷ record { nodes = record { number = 1; class = 2; value = 0 } ∷ []; edges = [] }
+-- # Badly listed: each breaks one thing that a listing asks
+abbrev declared′ : (number kind : ℕ) → Declared
+declared′ n k = record { number = n; kind = k }
+
+abbrev triple : (source name target : ℕ) → Triple
+triple i n j = record { source = i; name = n; target = j }
+
+-- classes 0 (object) and 1 (value), name 0 (functional)
+abbrev small : List Triple → Scheme
+small ts = record { classes = declared′ 0 0 ∷ declared′ 1 1 ∷ []; names = declared′ 0 0 ∷ []; permitted = ts }
+
+abbrev classesOnly : List Declared → Scheme
+classesOnly cs = record { classes = cs; names = []; permitted = [] }
+
+-- falling classes; a class twice; class 64; kind 2; name 64; a triple from a value class, with no such name, to no such class; falling
+-- triples; 257 triples
+abbrev badSchemes : List Scheme
+badSchemes =
+    classesOnly (declared′ 1 0 ∷ declared′ 0 0 ∷ [])
+    ∷ classesOnly (declared′ 1 0 ∷ declared′ 1 1 ∷ [])
+    ∷ classesOnly (declared′ 64 0 ∷ [])
+    ∷ classesOnly (declared′ 0 2 ∷ [])
+    ∷ record { classes = []; names = declared′ 64 0 ∷ []; permitted = [] }
+    ∷ small (triple 1 0 0 ∷ [])
+    ∷ small (triple 0 1 0 ∷ [])
+    ∷ small (triple 0 0 2 ∷ [])
+    ∷ small (triple 0 0 1 ∷ triple 0 0 0 ∷ [])
+    ∷ record { classes = map (λ c. declared′ c 0) (countFrom 0 3); names = wide .names; permitted = take 257 (triplesOf 0 64) }
+    ∷ []
+
+abbrev node : {Value : Type 0} → (number class : ℕ) → Value → Node Value
+node i c v = record { number = i; class = c; value = v }
+
+-- falling nodes; number 65536; no such class; a value on an object node; value 65536; an edge with no target; an edge twice; 257 nodes;
+-- 513 edges
+abbrev badInstances : List Instance
+badInstances =
+    record { nodes = node 2 0 0 ∷ node 1 0 0 ∷ []; edges = [] }
+    ∷ record { nodes = node 65536 0 0 ∷ []; edges = [] }
+    ∷ record { nodes = node 1 2 0 ∷ []; edges = [] }
+    ∷ record { nodes = node 1 0 5 ∷ []; edges = [] }
+    ∷ record { nodes = node 1 1 65536 ∷ []; edges = [] }
+    ∷ record { nodes = node 1 0 0 ∷ []; edges = triple 1 0 2 ∷ [] }
+    ∷ record { nodes = node 1 0 0 ∷ []; edges = triple 1 0 1 ∷ triple 1 0 1 ∷ [] }
+    ∷ record { nodes = nodesTo 257; edges = [] }
+    ∷ record { nodes = nodesTo 3; edges = edgesTo 513 }
+    ∷ []
+
+-- numbered from 1; no such class; a value on an object node; value 65536; an edge with no source; seven nodes; nine edges
+abbrev badPatterns : List Pattern
+badPatterns =
+    record { nodes = node 1 0 none ∷ []; edges = [] }
+    ∷ record { nodes = node 0 2 none ∷ []; edges = [] }
+    ∷ record { nodes = node 0 0 (some 0) ∷ []; edges = [] }
+    ∷ record { nodes = node 0 1 (some 65536) ∷ []; edges = [] }
+    ∷ record { nodes = node 0 0 none ∷ []; edges = triple 1 0 0 ∷ [] }
+    ∷ record { nodes = map (λ i. node i 0 none) (countFrom 0 7); edges = [] }
+    ∷ record { nodes = map (λ i. node i 0 none) (countFrom 0 3); edges = triplesOf 0 1 }
     ∷ []
 
 abbrev answer : Record → Call → List ℕ
 answer r c = told (step r c .answer)
 
 pub record Cases : Type 0 where
-  -- J conforms, within the limits and in order, and so does the pattern of R in it; what is badly listed is told
+  -- J conforms, within the limits and in order, and so does the pattern of R in it; nothing that is badly listed passes
   pub listed : holds (λ s d. schemeListed s && instanceListed s d && conforms s d) (opening J) ≡ true
   pub pattern-listed :
       holds (λ s d. fits (readRule s R >>= λ r. accepted (patternListed s (r .pattern) && patternConforms s (r .pattern)))) (opening J)
       ≡ true
-  pub not-listed : map (instanceListed wide) badlyListed ≡ false ∷ false ∷ false ∷ false ∷ []
+  pub schemes-not-listed : any schemeListed badSchemes ≡ false
+  pub instances-not-listed : any (instanceListed (small [])) badInstances ≡ false
+  pub patterns-not-listed : any (patternListed (small [])) badPatterns ≡ false
   -- a node just added is no image: node 1 gets a node, and that one gets none
   pub added-unmatched :
       trial (lines "class=0,0 name=0,0 may=0,0,0 node=1,0,0") (lines "op=1 pnode=0,0,0 make=0 arm=0,0")
@@ -168,7 +224,9 @@ cases =
     record {
       listed = refl;
       pattern-listed = refl;
-      not-listed = refl;
+      schemes-not-listed = refl;
+      instances-not-listed = refl;
+      patterns-not-listed = refl;
       added-unmatched = refl;
       extra-targets = refl;
       no-a-edge = refl;

@@ -1,7 +1,7 @@
 -- "Rule: op=code, code 0..5; pnode=class,given,value ..; pedge=node,name,node. Then for 1 make=class and arm=name,node;
 -- 2 put=node,name,node; 3 drop=node; 4 cut=node,name,node; 5 group=p,K,a,b; 0, a pattern only, has no more."
 use Prim.Native.Nat.{ℕ, suc}
-use mathlib.Core.Bool.{Bool, true, false, cond, not, _&&_, _||_}
+use mathlib.Core.Bool.{Bool, true, cond, not, _&&_, _||_}
 use mathlib.Core.Option.{Option, none, some}
 use mathlib.Core.List.{List, [], _∷_, _++_, map}
 use lib.ListN.{getD}
