@@ -3,3 +3,4 @@ pub mod Lists
 pub mod Order
 pub mod Text
 pub mod Decimal
+pub mod Laws

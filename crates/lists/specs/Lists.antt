@@ -2,9 +2,14 @@
 use Prim.Native.Nat.{ℕ, zero, suc}
 use mathlib.Core.Bool.{Bool, true, false, cond, _&&_, _||_}
 use mathlib.Core.Option.{Option, none, some}
-use mathlib.Core.List.{List, [], _∷_, _++_, map}
+use mathlib.Core.List.{List, [], _∷_, _++_, map, List·Memᴰ}
 use lib.ListN.{getD}
 use lib.Dec.{eqb}
+
+-- x is a member of xs
+infix 50 _∈_
+abbrev pub _∈_ : {A : Type 0} → A → List A → Type 0
+x ∈ xs = List·Memᴰ x xs
 
 module _ {A : Type 0} where
   -- some member passes; every member passes

@@ -1,0 +1,8 @@
+-- Laws of the definitions of this crate, by subject.
+pub mod Lists
+pub mod Order
+pub mod Decimal
+pub mod Text
+pub mod Count
+pub mod Apart
+pub mod Maps
