@@ -112,17 +112,27 @@ module _ {K : Type 0} (f : Format K) where
   linesOf ((b ∷ bs) ∷ []) = none ∷ []
   linesOf (l ∷ m ∷ ls) = lineOf (pieces 61 l) ∷ linesOf (m ∷ ls)
 
+  -- # A line under the lines above it
+  abbrev pub checksOf : (above : List (Line K)) → Line K → Checks
+  checksOf above l = f .checksAt above (l .key) (l .numbers)
+
+  -- it may stand there, and there are already as many of its kind as may be
+  abbrev pub inPlace : (above : List (Line K)) → Line K → Bool
+  inPlace above l = follows (f .formOf) (getLast? above) l && checksOf above l .placed
+
+  abbrev pub crowded : (above : List (Line K)) → Line K → Bool
+  crowded above l = full (f .formOf (l .key) .most) (length (numbersOf (f .formOf) (l .key) above))
+
   -- "the first bad line, tried 1 to 5"; a line "missing at the end" is "one past the last line"
   unfoldable pub reading : (above : List (Line K)) → List (Option (Line K)) → Outcome (List (Line K))
   reading above [] = cond (f .complete above) (accepted above) (refused (Malformed (suc (length above))))
   reading above (none ∷ ls) = refused (Malformed (suc (length above)))
   reading above (some l ∷ ls) =
       let line = suc (length above) in
-      let k = l .key in
-      let c = f .checksAt above k (l .numbers) in
+      let c = checksOf above l in
       let rest = reading (above ++ (l ∷ [])) ls in
-      cond (not (follows (f .formOf) (getLast? above) l && c .placed)) (refused (Malformed line))
-      (cond (full (f .formOf k .most) (length (numbersOf (f .formOf) k above))) (refused (TooMany line))
+      cond (not (inPlace above l)) (refused (Malformed line))
+      (cond (crowded above l) (refused (TooMany line))
       (cond (not (c .declared)) (refused (Undeclared line))
       (cond (not (c .conforming)) (refused (Nonconforming line))
       (cond (not (c .suited)) (refused (BadAction line)) rest))))

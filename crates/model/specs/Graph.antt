@@ -139,10 +139,13 @@ schemeListed s =
     && all (λ t. isObject s (t .source) && declares (s .names) (t .name) && declares (s .classes) (t .target)) (s .permitted)
 
 -- "Nodes are listed by rising number, edges by rising triple"; "none twice"; an edge's ends stand
+abbrev pub nodesRise : {Value : Type 0} → Graph Value → Bool
+nodesRise g = rising (map (λ n. n .number ∷ []) (g .nodes))
+
 abbrev pub graphListed : {Value : Type 0} → (mostNodes mostEdges : ℕ) → Graph Value → Bool
 graphListed mostNodes mostEdges g =
     leb (length (g .nodes)) mostNodes
-    && rising (map (λ n. n .number ∷ []) (g .nodes))
+    && nodesRise g
     && leb (length (g .edges)) mostEdges
     && rising (map row (g .edges))
     && all (λ e. stands g (e .source) && stands g (e .target)) (g .edges)

@@ -59,9 +59,12 @@ served K edges d =
     let linked : Node ℕ → Arm → Bool = λ n a. has (d .edges) (record { source = n .number; name = a .name; target = a .node }) in
     any (λ n. eqb (n .class) K && all (linked n) edges) (d .nodes)
 
+-- a new K node for each place in turn that is not served then
+abbrev pub newNodes : {Place : Type 0} → ℕ → (served : Place → Instance → Bool) → (edges : Place → List Arm) → List Place → Instance → Outcome Instance
+newNodes K served edges places d = inTurn places (λ x now. cond (served x now) (accepted now) (withNode K (edges x) now)) d
+
 unfoldable pub nodeAddition : ℕ → List Arm → List (List ℕ) → Instance → Outcome Instance
-nodeAddition K arms ms d =
-    inTurn ms (λ m now. cond (served K (armsAt m arms) now) (accepted now) (withNode K (armsAt m arms) now)) d
+nodeAddition K arms ms d = newNodes K (λ m now. served K (armsAt m arms) now) (λ m. armsAt m arms) ms d
 
 -- # Edges
 -- an edge joined to rising edges, at its place, once; edges joined one after the other
@@ -118,14 +121,19 @@ groups es a is =
     let group = keep (λ j. sameSet (targets es a i) (targets es a j)) is in
     cond (eqb (group ! 0) i) (group ∷ []) [])
 
--- 5. "A group for which no K node of the old drawing has exactly that group as its b-targets gets a new K node with those b-edges. House:
--- only images of p are grouped"
+-- the groups of a pattern node's images. "House: only images of p are grouped"
+abbrev pub groupsOf : ℕ → ℕ → List (List ℕ) → Instance → List (List ℕ)
+groupsOf p a ms d = groups (d .edges) a (keep (member (imagesOf p ms)) (map (λ n. n .number) (d .nodes)))
+
+-- 5. "A group for which no K node of the old drawing has exactly that group as its b-targets gets a new K node with those b-edges."
+abbrev pub grouped : ℕ → ℕ → Instance → List ℕ → Bool
+grouped K b old group = any (λ n. eqb (n .class) K && sameSet (targets (old .edges) b (n .number)) group) (old .nodes)
+
+abbrev pub groupArms : ℕ → List ℕ → List Arm
+groupArms b group = map (λ i. record { name = b; node = i }) group
+
 unfoldable pub abstraction : ℕ → ℕ → ℕ → ℕ → List (List ℕ) → Instance → Outcome Instance
-abstraction p K a b ms old =
-    let is = keep (member (imagesOf p ms)) (map (λ n. n .number) (old .nodes)) in
-    let serves : List ℕ → Node ℕ → Bool = λ group n. eqb (n .class) K && sameSet (targets (old .edges) b (n .number)) group in
-    let edges : List ℕ → List Arm = map (λ i. record { name = b; node = i }) in
-    inTurn (groups (old .edges) a is) (λ group now. cond (any (serves group) (old .nodes)) (accepted now) (withNode K (edges group) now)) old
+abstraction p K a b ms old = newNodes K (λ group now. grouped K b old group) (groupArms b) (groupsOf p a ms old) old
 
 -- # Applying a rule
 unfoldable pub perform : Scheme → Action → List (List ℕ) → Instance → Outcome Instance
