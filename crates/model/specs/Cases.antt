@@ -11,7 +11,7 @@ use Rattle.model.specs.Graph.{Declared, Triple, Scheme, Node, Instance, 
 use Rattle.model.specs.Operations.{applied}
 use Rattle.model.specs.Refusals.{Outcome, accepted, refused, _>>=_}
 use Rattle.model.specs.Files.RuleText.{readRule}
-use Rattle.model.specs.Record.{Record, shut, opened, Call, Open, Apply, Undo, First, After, Save, step}
+use Rattle.model.specs.Record.{Record, shut, opened, Call, Open, Apply, Undo, Close, First, After, Save, step}
 use Rattle.model.specs.Trial.{trial}
 use Rattle.model.specs.Examples.{computing, lines, J, J7, J65535, R, twoFree, empty, E7Rule, opening, told, answers}
 
@@ -143,6 +143,12 @@ pub record Cases : Type 0 where
   pub schemes-not-listed : any schemeListed badSchemes ≡ false
   pub instances-not-listed : any (instanceListed (small [])) badInstances ≡ false
   pub patterns-not-listed : any (patternListed (small [])) badPatterns ≡ false
+  -- "with the given value where one is given": of the two values of J7 a pattern finds the one that it gives
+  pub given-values :
+      answer (opening J7) (First (lines "op=0 pnode=1,1,720")) ∷ answer (opening J7) (Apply (lines "op=0 pnode=1,1,601")) ∷ []
+      ≡ (0 ∷ 7 ∷ []) ∷ (0 ∷ 0 ∷ 0 ∷ 0 ∷ 0 ∷ 0 ∷ []) ∷ []
+  -- "or 0 in an empty drawing"
+  pub first-number : trial (lines "class=0,0") (lines "op=1 make=0") ≡ lines "done=1,1,0,0,0 class=0,0 node=0,0,0"
   -- a node just added is no image: node 1 gets a node, and that one gets none
   pub added-unmatched :
       trial (lines "class=0,0 name=0,0 may=0,0,0 node=1,0,0") (lines "op=1 pnode=0,0,0 make=0 arm=0,0")
@@ -185,6 +191,8 @@ pub record Cases : Type 0 where
   pub saves : step (opening J) (Save (J ++ (1 ∷ 2 ∷ []))) .buffer ≡ J ++ (1 ∷ 2 ∷ [])
   pub saves-exactly : step (opening J) (Save (replicate (length J) 7)) .buffer ≡ J
   pub short : step (opening J) (Save (replicate 114 7)) .buffer ≡ replicate 114 7
+  -- close reports nothing
+  pub closed : answers (Open J ∷ Close ∷ []) ≡ (0 ∷ 2 ∷ 2 ∷ []) ∷ (0 ∷ []) ∷ []
   -- each refusal, in the order of the table
   pub each-refusal :
       answer shut (Open (lines "class=0,0 class=0,1"))
@@ -227,6 +235,8 @@ cases =
       schemes-not-listed = refl;
       instances-not-listed = refl;
       patterns-not-listed = refl;
+      given-values = refl;
+      first-number = refl;
       added-unmatched = refl;
       extra-targets = refl;
       no-a-edge = refl;
@@ -243,5 +253,6 @@ cases =
       saves = refl;
       saves-exactly = refl;
       short = refl;
+      closed = refl;
       each-refusal = refl;
     }

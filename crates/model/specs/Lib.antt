@@ -8,6 +8,14 @@ pub mod Files
 pub mod Refusals
 pub mod Trial
 pub mod Answers
+-- Worked examples
 pub mod Examples
 pub mod Cases
 pub mod Readings
+-- What theorems are stated with, the theorems, and the three demands
+pub mod Sound
+pub mod Causes
+pub mod Meaning
+pub mod Backtracking
+pub mod Laws
+pub mod Demands

@@ -113,7 +113,7 @@ edgeDeletion ts ms d = record { nodes = d .nodes; edges = keep (λ e. not (has (
 abbrev pub targets : List Triple → ℕ → ℕ → List ℕ
 targets es name i = map (λ e. e .target) (keep (λ e. eqb (e .source) i && eqb (e .name) name) es)
 
--- "grouped by equal sets of a-targets; images with no a-edge form one group. Groups are taken by smallest member": of rising numbers,
+-- "grouped by equal sets of a-targets ..; images with no a-edge form one group. Groups are taken by smallest member": of rising numbers,
 -- the group of each one that is the first of its group
 abbrev pub groups : List Triple → ℕ → List ℕ → List (List ℕ)
 groups es a is =

@@ -33,7 +33,7 @@ abbrev rule : String → (number line : ℕ) → Reading
 rule text number line =
     record {
       given = refusal
-          (readDrawing (lines "class=0,0 class=1,1 class=2,0 name=0,0 name=1,1 name=2,0 may=0,0,1 may=0,1,0 may=0,2,0")
+          (readDrawing (lines "class=0,0 class=1,1 class=2,0 name=0,0 name=1,1 name=2,0 may=0,0,1 may=0,1,0 may=0,1,1 may=0,2,0")
           >>= λ f. readRule (f .scheme) (lines text));
       expected = number ∷ line ∷ [];
     }
@@ -121,6 +121,7 @@ ofActions =
     ∷ rule "op=4 pnode=0,0,0 pedge=0,1,0 cut=0,1,0" 0 0
     ∷ rule "op=4 pnode=0,0,0 pedge=0,1,0 cut=0,2,0" 5 4
     ∷ rule "op=5 pnode=0,0,0 group=0,0,1,1" 0 0
+    ∷ rule "op=5 pnode=1,0,0 group=0,0,1,1" 0 0
     ∷ rule "op=5 pnode=0,0,0 group=0,1,1,1" 5 3
     ∷ rule "op=5 pnode=0,0,0 group=0,0,0,1" 5 3
     ∷ rule "op=5 pnode=2,0,0 group=0,0,1,1" 5 3
