@@ -4,5 +4,8 @@ pub mod Order
 pub mod Decimal
 pub mod Text
 pub mod Count
+pub mod Radix
 pub mod Apart
 pub mod Maps
+pub mod Places
+pub mod OneMore

@@ -3,4 +3,5 @@ pub mod Lists
 pub mod Order
 pub mod Text
 pub mod Decimal
+pub mod Radix
 pub mod Laws

@@ -27,7 +27,7 @@ module _ {A : Type 0} (g : A → List ℕ) where
   not-later x y xs h i e = let d = simp Truth at h in false≢true (sym (d .0 y i) ∙ same-list (g x) (g y) .1 e)
 
   -- what tells members apart tells which member it is
-  apart-determined : (xs : List A) → apart xs ≡ true → {x y : A} → x ∈ xs → y ∈ xs → g x ≡ g y → x ≡ y
+  pub apart-determined : (xs : List A) → apart xs ≡ true → {x y : A} → x ∈ xs → y ∈ xs → g x ≡ g y → x ≡ y
   apart-determined [] h i j e = absurd (List·Memᴰ·not-nil i)
   apart-determined (a ∷ xs) h {x} {y} i j e =
       let rest = both (all (λ z. not (same (g a) (g z))) xs) (apart xs) .0 h .1 in

@@ -5,25 +5,15 @@ use native.Mathlib.Nat.{mul-le-mul-right}
 use native.Mathlib.Omega.{arith}
 use mathlib.Core.Path.{_≡_, refl, ap, _∙_}
 use mathlib.Core.Logic.{_↔_, Iff·rfl, ⊎-elim}
-use mathlib.Core.Bool.{Bool, true, false, _&&_, false≢true}
+use mathlib.Core.Bool.{true, false≢true}
 use mathlib.Core.List.{List, [], _∷_, List·Memᴰ·head, List·Memᴰ·tail, List·Memᴰ·not-nil}
 use lib.ListN.{length, take, length-append}
 use lib.Dec.{ltb}
 use Rattle.lists.specs.Lists.{_∈_, each, _!_}
 use Rattle.lists.specs.Order.{before, rising}
+use Rattle.lists.specs.Radix.{product, within, rank}
 use Rattle.lists.specs.Laws.Lists.{both, less, in-cons}
 use Rattle.lists.specs.Laws.Order.{before-cons, rising-cons}
-
-abbrev pub product : List ℕ → ℕ
-product [] = 1
-product (b ∷ bs) = b * product bs
-
--- as many numbers as limits, each below its own
-abbrev pub within : (limits : List ℕ) → List ℕ → Bool
-within [] [] = true
-within [] (n ∷ ns) = false
-within (b ∷ bs) [] = false
-within (b ∷ bs) (n ∷ ns) = ltb n b && within bs ns
 
 pub within-cons : (b n : ℕ) (bs ns : List ℕ) → (within (b ∷ bs) (n ∷ ns) ≡ true) ↔ ((n < b) × (within bs ns ≡ true))
 within-cons b n bs ns = simp (both, less) Iff·rfl
@@ -50,12 +40,7 @@ within-at (b ∷ bs) (n ∷ ns) h zero l = within-cons b n bs ns .0 h .0
 within-at (b ∷ bs) (n ∷ ns) h (suc i) l = within-at bs ns (within-cons b n bs ns .0 h .1) i (omega arith)
 
 -- # Ranks
-abbrev rank : (limits : List ℕ) → List ℕ → ℕ
-rank [] ns = 0
-rank (b ∷ bs) [] = 0
-rank (b ∷ bs) (n ∷ ns) = n * product bs + rank bs ns
-
-rank-below : (bs ns : List ℕ) → within bs ns ≡ true → rank bs ns < product bs
+pub rank-below : (bs ns : List ℕ) → within bs ns ≡ true → rank bs ns < product bs
 rank-below [] ns h = omega arith
 rank-below (b ∷ bs) [] h = absurd (false≢true h)
 rank-below (b ∷ bs) (n ∷ ns) h =

@@ -8,10 +8,10 @@ use native.Mathlib.Nat.{le-refl, eq-or-lt-of-le}
 use mathlib.Core.List.{List, [], _∷_, _++_, map, append-assoc, List·Memᴰ·head, List·Memᴰ·tail, List·Memᴰ·not-nil, List·Memᴰ·cases-cons}
 use mathlib.Core.List.{Memᴰ·cast, Memᴰ·append-left, Memᴰ·append-right, List·Memᴰ·append-cases, List·Memᴰ·eq-of-singleton}
 use native.Mathlib.Omega.{arith}
-use lib.ListN.{length, take, getD}
+use lib.ListN.{length, take}
 use lib.Dec.{eqb, ltb, leb}
 use borrow.Author.Tests.{ltb-true, leb-true, eqb-true, lt-ltb, le-leb, eq-eqb, ne-eqb, eqb-false}
-use Rattle.lists.specs.Lists.{_∈_, any, all, keep, find, each, sequences, countFrom, member, sameSet, _!_}
+use Rattle.lists.specs.Lists.{_∈_, any, all, keep, find, each, sequences, countFrom, member, sameSet}
 
 -- # Tests
 pub both : (a b : Bool) → ((a && b) ≡ true) ↔ ((a ≡ true) × (b ≡ true))
@@ -248,6 +248,9 @@ same-truth true b h = sym (h .0 refl)
 same-truth false true h = h .1 refl
 same-truth false false h = refl
 
+pub eqb-symmetric : (m n : ℕ) → eqb m n ≡ eqb n m
+eqb-symmetric m n = same-truth (eqb m n) (eqb n m) ((λ h. eq-eqb n m (sym (eqb-true m n h))), λ h. eq-eqb m n (sym (eqb-true n m h)))
+
 pub same-set : (xs ys : List ℕ) → (sameSet xs ys ≡ true) ↔ ((i : ℕ) → (i ∈ xs) ↔ (i ∈ ys))
 same-set xs ys = (
   (λ h i.
@@ -261,19 +264,3 @@ same-set xs ys = (
         all-members (member xs) ys .1 (λ i j. in-numbers xs i .1 (h i .1 j)),
       ),
 )
-
--- # Lists by their places
-pub first-member : {A : Type 0} (xs : List A) (d : A) {x : A} → x ∈ xs → getD xs 0 d ∈ xs
-first-member [] d h = absurd (List·Memᴰ·not-nil h)
-first-member (x ∷ xs) d h = List·Memᴰ·head refl
-
-places-tail : (x : ℕ) (xs : List ℕ) (i k : ℕ) → map (λ j. (x ∷ xs) ! j) (countFrom (suc i) k) ≡ map (λ j. xs ! j) (countFrom i k)
-places-tail x xs i zero = refl
-places-tail x xs i (suc k) = ap (λ (l : List ℕ). (xs ! i) ∷ l) (places-tail x xs (suc i) k)
-
--- the numbers at the first k places of a list of k numbers are the list
-pub by-places : (k : ℕ) (xs : List ℕ) → length xs ≡ k → map (λ i. xs ! i) (countFrom 0 k) ≡ xs
-by-places zero [] e = refl
-by-places zero (x ∷ xs) e = absurd (omega arith)
-by-places (suc k) [] e = absurd (omega arith)
-by-places (suc k) (x ∷ xs) e = ap (λ (l : List ℕ). x ∷ l) (places-tail x xs 0 k ∙ by-places k xs (omega arith))

@@ -3,8 +3,9 @@
 use Prim.Native.Nat.{ℕ}
 use mathlib.Core.Path.{_≡_, refl, ap, ap₂, _∙_}
 use mathlib.Core.Bool.{Bool, true, false, cond}
+use mathlib.Core.Option.{Option, some, Option·map}
 use mathlib.Core.List.{List, [], _∷_, _++_, map, map-append, map-map, map-id, List·Memᴰ·head, List·Memᴰ·tail}
-use Rattle.lists.specs.Lists.{_∈_, keep, each}
+use Rattle.lists.specs.Lists.{_∈_, keep, find, each}
 use Rattle.lists.specs.Order.{rising}
 use Rattle.lists.specs.Laws.Order.{rising-append}
 
@@ -32,6 +33,16 @@ each-if {A} {B} p f (x ∷ xs) = go (p x) (keep p xs) (each-if p f xs)
         → cond t (f x ∷ []) [] ++ each xs (λ y. cond (p y) (f y ∷ []) []) ≡ map f (cond t (x ∷ l) l)
     go true l e = ap (λ (m : List B). f x ∷ m) e
     go false l e = e
+
+-- what is found among what f makes of the members
+pub find-map : {A B : Type 0} (f : A → B) (p : A → Bool) (q : B → Bool) (xs : List A) → ((x : A) → x ∈ xs → q (f x) ≡ p x)
+    → find q (map f xs) ≡ Option·map f (find p xs)
+find-map f p q [] h = refl
+find-map {A} {B} f p q (x ∷ xs) h = rw (h x (List·Memᴰ·head refl), find-map f p q xs (λ y i. h y (List·Memᴰ·tail i))) (go (p x) (find p xs))
+  where
+    go : (t : Bool) (o : Option A) → cond t (some (f x)) (Option·map f o) ≡ Option·map f (cond t (some x) o)
+    go true o = refl
+    go false o = refl
 
 pub rising-front : {A : Type 0} (f : A → List ℕ) (xs ys : List A) → rising (map f (xs ++ ys)) ≡ true → rising (map f xs) ≡ true
 rising-front f xs ys h = rising-append (map f xs) (map f ys) .0 (rw map-append at h) .0

@@ -67,11 +67,15 @@ drawingChecks above edge= x =
     let known = stands d (x ! 0) && declares (schemeIn above .names) (x ! 1) && stands d (x ! 2) in
     checks true known (conformsWith above edge= x) true
 
+-- "Keys come in this order"
+abbrev pub drawingKeys : List DrawingKey
+drawingKeys = class= ∷ name= ∷ may= ∷ node= ∷ edge= ∷ []
+
 -- no line is required: "Empty text is an empty drawing."
 unfoldable pub drawingFormat : Format DrawingKey
 drawingFormat =
     record {
-      keys = class= ∷ name= ∷ may= ∷ node= ∷ edge= ∷ [];
+      keys = drawingKeys;
       formOf = drawingForm;
       checksAt = drawingChecks;
       complete = λ ls. true;

@@ -33,6 +33,9 @@ ruleForm drop= = form 6 "drop" (Limits.patternNodes ∷ []) (some 0) none
 ruleForm cut= = form 7 "cut" patternEdge (some 3) (some Limits.cuts)
 ruleForm group= = form 8 "group" (Limits.patternNodes ∷ Limits.classes ∷ Limits.names ∷ Limits.names ∷ []) (some 0) none
 
+abbrev pub ruleKeys : List RuleKey
+ruleKeys = op= ∷ pnode= ∷ pedge= ∷ make= ∷ arm= ∷ put= ∷ drop= ∷ cut= ∷ group= ∷ []
+
 abbrev pub RuleLines : Type 0
 RuleLines = List (Line RuleKey)
 
@@ -116,7 +119,7 @@ module _ (s : Scheme) where
   unfoldable pub ruleFormat : Format RuleKey
   ruleFormat =
       record {
-        keys = op= ∷ pnode= ∷ pedge= ∷ make= ∷ arm= ∷ put= ∷ drop= ∷ cut= ∷ group= ∷ [];
+        keys = ruleKeys;
         formOf = ruleForm;
         checksAt = ruleChecks;
         complete = λ ls. hasCode 0 ls || any (λ l. ltb (ruleForm pedge= .turn) (ruleForm (l .key) .turn)) ls;

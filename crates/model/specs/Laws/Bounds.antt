@@ -14,7 +14,8 @@ use borrow.Author.Tests.{eq-eqb, leb-true, leb-false}
 use Rattle.lists.specs.Lists.{_∈_, member}
 use Rattle.lists.specs.Text.{pieces}
 use Rattle.lists.specs.Laws.Lists.{each-append}
-use Rattle.lists.specs.Laws.Count.{within, within-cons, total, total-length, total-sum, total-monotone, total-grows, total-member, each-length}
+use Rattle.lists.specs.Radix.{within}
+use Rattle.lists.specs.Laws.Count.{within-cons, total, total-length, total-sum, total-monotone, total-grows, total-member, each-length}
 use Rattle.lists.specs.Laws.Text.{by-lines, take-without}
 use Rattle.lists.specs.Laws.Decimal.{decimal-length}
 use Rattle.model.specs.Files.{Form, Line, Format, numbersOf, commas, keyLine, lineText, lineOf, linesOf, reading, read}

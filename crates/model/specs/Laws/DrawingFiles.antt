@@ -6,7 +6,8 @@ use mathlib.Core.Path.{_≡_, refl, ap, _∙_, sym, fun-ext}
 use mathlib.Core.List.{List, map, append-assoc, append-nil, List·Memᴰ·head, List·Memᴰ·tail}
 use lib.ListN.{length, take}
 use Rattle.lists.specs.Lists.{_∈_}
-use Rattle.lists.specs.Laws.Lists.{each-append, by-places}
+use Rattle.lists.specs.Laws.Lists.{each-append}
+use Rattle.lists.specs.Laws.Places.{by-places}
 use Rattle.lists.specs.Laws.Maps.{each-map, map-back}
 use Rattle.lists.specs.Laws.Count.{within-length}
 use Rattle.model.specs.Graph.{Scheme, Instance, row}

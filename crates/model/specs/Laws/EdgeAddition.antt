@@ -51,7 +51,7 @@ in-joined (e ∷ new) es t =
       ⊎-elim (λ i. ⊎-elim (λ p. more .1 (inr (one .1 (inl p)))) (λ j. more .1 (inl j)) (in-cons .0 i)) (λ i. more .1 (inr (one .1 (inr i)))),
     )
 
-joinEdge-rises : (e : Triple) (es : List Triple) → rising (map row es) ≡ true → rising (map row (joinEdge e es)) ≡ true
+pub joinEdge-rises : (e : Triple) (es : List Triple) → rising (map row es) ≡ true → rising (map row (joinEdge e es)) ≡ true
 joinEdge-rises e [] h = refl
 joinEdge-rises e (f ∷ fs) h =
     let r = rising-map row f fs .0 h in

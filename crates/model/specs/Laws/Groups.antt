@@ -9,7 +9,8 @@ use borrow.Author.Tests.{eqb-true, eq-eqb}
 use lib.Dec.{eqb}
 use Rattle.lists.specs.Lists.{_∈_, keep, each, _!_, member, sameSet}
 use Rattle.lists.specs.Order.{rising}
-use Rattle.lists.specs.Laws.Lists.{same-truth, same-set, first-member, both, equals, in-keep, in-map, in-numbers}
+use Rattle.lists.specs.Laws.Lists.{same-truth, same-set, both, equals, in-keep, in-map, in-numbers}
+use Rattle.lists.specs.Laws.Places.{first-member}
 use Rattle.lists.specs.Laws.Order.{rising-map-keep}
 use Rattle.lists.specs.Laws.Maps.{map-same, each-if}
 use Rattle.model.specs.Graph.{Triple, Instance, stands, nodesRise}

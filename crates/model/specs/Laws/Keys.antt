@@ -16,7 +16,7 @@ use Rattle.lists.specs.Order.{rising}
 use Rattle.lists.specs.Laws.Lists.{both, in-cons, in-append, in-map, in-each, keep-none}
 use Rattle.lists.specs.Laws.Order.{lexicographic, rising-map}
 use Rattle.lists.specs.Laws.Maps.{each-same}
-use Rattle.lists.specs.Laws.Count.{within}
+use Rattle.lists.specs.Radix.{within}
 use Rattle.model.specs.Files.{Line, Format, checks, rises, full, numbersOf, follows}
 use Rattle.model.specs.Causes.{passes, allPass}
 use Rattle.model.specs.Laws.Lines.{LineInForm, Regular}

@@ -15,7 +15,7 @@ use Rattle.lists.specs.Text.{pieces}
 use Rattle.lists.specs.Decimal.{decimal, value, isDigit, isNumeral}
 use Rattle.lists.specs.Laws.Lists.{keep-none, keep-append, no-member, both, not-so, all-members, any-append, in-cons, in-map}
 use Rattle.lists.specs.Laws.Order.{same-list}
-use Rattle.lists.specs.Laws.Count.{within}
+use Rattle.lists.specs.Radix.{within}
 use Rattle.lists.specs.Laws.Apart.{found-member, apart, apart-find}
 use Rattle.lists.specs.Laws.Text.{join, join-pieces, join-without, pieces-join, by-lines, pieces-one, pieces-line, Parted, pieces-parted}
 use Rattle.lists.specs.Laws.Decimal.{value-decimal, decimal-value, decimal-numeral, decimal-without}

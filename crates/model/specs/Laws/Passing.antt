@@ -16,7 +16,8 @@ use Rattle.lists.specs.Order.{before, rising}
 use Rattle.lists.specs.Laws.Lists.{both, not-so, all-members, less, equals, in-cons, in-append, in-keep, in-map, keep-append}
 use Rattle.lists.specs.Laws.Order.{lexicographic, before-transitive, rising-cons}
 use Rattle.lists.specs.Laws.Apart.{rising-map-determines}
-use Rattle.lists.specs.Laws.Count.{product, within, within-take, rising-count}
+use Rattle.lists.specs.Radix.{product, within}
+use Rattle.lists.specs.Laws.Count.{within-take, rising-count}
 use Rattle.model.specs.Files.{Form, Line, Format, rises, full, numbersOf, follows}
 use Rattle.model.specs.Causes.{passes, allPass}
 use Rattle.model.specs.Laws.Lines.{LineInForm, Regular, Readable, bounded}

@@ -20,7 +20,7 @@ use Rattle.model.specs.Refusals.{Outcome, accepted, refused}
 use Rattle.model.specs.Record.{Record, shut, opened, Call, Open, Apply, Undo, Close, First, After, Save, accept, step}
 use Rattle.model.specs.Matching.{matchings}
 use Rattle.model.specs.Sound.{SoundRecord}
-use Rattle.model.specs.Files.{full, read}
+use Rattle.model.specs.Files.{read}
 use Rattle.model.specs.Files.DrawingFile.{drawingFormat, readDrawing, fileText}
 use Rattle.model.specs.Files.RuleText.{ruleFormat, readRule}
 use Rattle.model.specs.Causes.{BadText, NoRoom, nodes-full, numbers-full, edges-full, Stuck}

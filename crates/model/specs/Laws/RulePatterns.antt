@@ -14,9 +14,11 @@ use borrow.Author.Tests.{eqb-true, le-leb}
 use Rattle.lists.specs.Lists.{_∈_, any, countFrom, _!_}
 use Rattle.lists.specs.Order.{rising}
 use Rattle.lists.specs.Laws.Order.{rising-count-from}
-use Rattle.lists.specs.Laws.Lists.{both, one-of, not-so, in-cons, in-map, by-places}
+use Rattle.lists.specs.Laws.Lists.{both, one-of, not-so, in-cons, in-map}
+use Rattle.lists.specs.Laws.Places.{by-places}
 use Rattle.lists.specs.Laws.Maps.{map-same}
-use Rattle.lists.specs.Laws.Count.{within, within-length, within-at}
+use Rattle.lists.specs.Radix.{within}
+use Rattle.lists.specs.Laws.Count.{within-length, within-at}
 use Rattle.model.specs.Limits
 use Rattle.model.specs.Graph.{Triple, Scheme, Node, declares, isObject, isValue, row, stands, givenIn, patternConforms, conformsBy}
 use Rattle.model.specs.Files.{Line, numbersOf, tripleOf}

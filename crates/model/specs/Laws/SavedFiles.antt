@@ -11,7 +11,8 @@ use lib.Dec.{eqb, leb}
 use Rattle.lists.specs.Lists.{_∈_, _!_}
 use Rattle.lists.specs.Laws.Lists.{both, one-of, not-so, fails, equals, at-most, any-member, in-append, in-map}
 use Rattle.lists.specs.Laws.Maps.{map-back, rising-front}
-use Rattle.lists.specs.Laws.Count.{within, within-cons}
+use Rattle.lists.specs.Radix.{within}
+use Rattle.lists.specs.Laws.Count.{within-cons}
 use Rattle.model.specs.Limits
 use Rattle.model.specs.Graph.{Declared, Triple, Scheme, Node, Instance, declares, isObject, isValue, row, stands, ofClass, permits, conforms}
 use Rattle.model.specs.Operations.{nodeRow}

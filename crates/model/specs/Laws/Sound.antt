@@ -53,8 +53,8 @@ module _ (s : Scheme) (es : List Triple) where
   clashing i e = eqb (e .source) i && any (clash s e) es
 
   -- where no node is torn, no two edges clash
-  pub no-clash : (g : Instance) → ((n : Node ℕ) → n ∈ g .nodes → torn s es (n .number) ≡ false) → (e f : Triple) → stands g (e .source) ≡ true
-      → e ∈ es → f ∈ es → clash s e f ≡ false
+  pub no-clash : {Value : Type 0} (g : Graph Value) → ((n : Node Value) → n ∈ g .nodes → torn s es (n .number) ≡ false)
+      → (e f : Triple) → stands g (e .source) ≡ true → e ∈ es → f ∈ es → clash s e f ≡ false
   no-clash g h e f k i j =
       let r = stands-node g (e .source) .0 k in
       let n = r .0 in
@@ -63,7 +63,7 @@ module _ (s : Scheme) (es : List Triple) where
       let q = both (eqb (e .source) (n .number)) (any (clash s e) es) .1 (here, any-member (clash s e) es .1 (f, j, c)) in
       false≢true (sym (h n (r .1)) ∙ any-member (clashing (n .number)) es .1 (e, i, q)))
 
-  not-torn : ((e f : Triple) → e ∈ es → f ∈ es → clash s e f ≡ false) → (i : ℕ) → torn s es i ≡ false
+  pub not-torn : ((e f : Triple) → e ∈ es → f ∈ es → clash s e f ≡ false) → (i : ℕ) → torn s es i ≡ false
   not-torn h i =
       fails (torn s es i) .1 (λ t.
       let r = any-member (clashing i) es .0 t in

@@ -11,7 +11,8 @@ use lib.Dec.{eqb, leb}
 use Rattle.lists.specs.Lists.{_∈_, any, _!_}
 use Rattle.lists.specs.Order.{rising}
 use Rattle.lists.specs.Laws.Lists.{both, one-of, not-so, at-most, in-map}
-use Rattle.lists.specs.Laws.Count.{within, within-cons}
+use Rattle.lists.specs.Radix.{within}
+use Rattle.lists.specs.Laws.Count.{within-cons}
 use Rattle.model.specs.Limits
 use Rattle.model.specs.Graph.{Declared, Triple, Scheme, Node, Instance, row, declares, ofKind, stands, isObject, isValue, conforms, conformsBy, nodesRise}
 use Rattle.model.specs.Graph.{inValues}
