@@ -1,8 +1,8 @@
 -- What stored keys mean, on keys of the drawing J and at the largest numbers.
-use Prim.Native.Nat.{ℕ, _+_, _*_, _-_, _^_}
+use Prim.Native.Nat.{_+_, _*_, _-_, _^_}
 use mathlib.Core.Path.{_≡_, refl}
 use mathlib.Core.Option.{none, some}
-use mathlib.Core.List.{List, [], _∷_}
+use mathlib.Core.List.{[], _∷_}
 use Rattle.graph.specs.Packed.{unpackTriple, unpackNode, unpackPatternNodes, unpackDeclared}
 
 pub record Examples : Type 0 where
@@ -17,8 +17,8 @@ pub record Examples : Type 0 where
       unpackPatternNodes 0 (0 ∷ (1 * 2 ^ 33 + 2 ^ 32) ∷ [])
       ≡ record { number = 0; class = 0; value = none } ∷ record { number = 1; class = 1; value = some 0 } ∷ []
   -- class=0,0 class=1,1, and class=63,1 alone
-  pub classes : unpackDeclared 64 3 2 ≡ record { number = 0; kind = 0 } ∷ record { number = 1; kind = 1 } ∷ []
-  pub last-class : unpackDeclared 64 (2 ^ 63) (2 ^ 63) ≡ record { number = 63; kind = 1 } ∷ []
+  pub classes : unpackDeclared record { declared = 3; second = 2 } ≡ record { number = 0; kind = 0 } ∷ record { number = 1; kind = 1 } ∷ []
+  pub last-class : unpackDeclared record { declared = 2 ^ 63; second = 2 ^ 63 } ≡ record { number = 63; kind = 1 } ∷ []
 
 pub examples : Examples
 unfolding unpackDeclared

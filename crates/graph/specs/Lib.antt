@@ -1,3 +1,5 @@
--- What stored values mean, and examples of it.
+-- What stored values mean, examples of it, and laws.
 pub mod Packed
+pub mod Keys
 pub mod Examples
+pub mod Laws

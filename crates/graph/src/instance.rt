@@ -1,5 +1,14 @@
 // The instance, document 01's drawing, as it is stored.
-ghost use Rattle.graph.specs.Packed.{FreshInstance};
+ghost use mathlib.Core.Path.{_≡_};
+ghost use mathlib.Core.Bool.{true};
+ghost use mathlib.Core.List.{[], _∷_, map};
+ghost use Prim.Native.Nat.{_<_, _^_};
+ghost use lib.Dec.{eqb};
+ghost use Rattle.lists.specs.Lists.{find};
+ghost use Rattle.lists.specs.Order.{rising};
+ghost use Rattle.graph.specs.Packed.{FreshInstance, unpackNode, foundNode};
+use crate::keys::place;
+use crate::packing::NODE_NUMBER;
 
 // A graph's order is its number of nodes, its size the number of its edges.
 #[repr(C)]
@@ -25,4 +34,25 @@ impl PackedInstance {
             size: 0,
         }
     }
+}
+
+pub enum Found {
+    At(u64),
+    Nothing,
+}
+
+// The key of the node that has the number, by halving.
+pub fn node_at(nodes: &[u64], number: u64) -> Found
+    requires { ⌜ rising (map (λ n. n .number ∷ []) (map unpackNode (now nodes))) ≡ true ⌝ }
+    requires { ⌜ number < 2 ^ 16 ⌝ }
+    ensures { λ r. ⌜ foundNode r ≡ find (λ n. eqb (n .number) number) (map unpackNode (now (nodes .entry))) ⌝ }
+{
+    let at = place(nodes, number * NODE_NUMBER);
+    if at < nodes.len() {
+        let node = nodes[at];
+        if node / NODE_NUMBER == number {
+            return Found::At(node);
+        }
+    }
+    Found::Nothing
 }

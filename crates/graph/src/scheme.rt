@@ -1,13 +1,19 @@
 // The scheme as it is stored.
-ghost use Rattle.graph.specs.Packed.{FreshScheme};
+ghost use mathlib.Core.Path.{_≡_};
+ghost use mathlib.Core.Bool.{true};
+ghost use mathlib.Core.List.{map};
+ghost use Prim.Native.Nat.{_<_, _^_};
+ghost use Rattle.model.specs.Graph.{has};
+ghost use Rattle.graph.specs.Packed.{FreshScheme, unpackTriple, triplesRise, triple};
+use crate::declarations::Declarations;
+use crate::keys::has_key;
+use crate::packing::TRIPLE_NAME;
+use crate::packing::TRIPLE_SOURCE;
 
-// Classes and names are sets: bit n stands for number n. `valued` are the classes of kind 1, `multivalued` the names of kind 1.
 #[repr(C)]
 pub struct PackedScheme {
-    pub classes: u64,
-    pub valued: u64,
-    pub names: u64,
-    pub multivalued: u64,
+    pub classes: Declarations,
+    pub names: Declarations,
     pub permitted: [u64; PackedScheme::PERMITTED],
     pub permissions: usize,
 }
@@ -19,12 +25,22 @@ impl PackedScheme {
         ensures { λ r. ⌜ FreshScheme r ⌝ }
     {
         PackedScheme {
-            classes: 0,
-            valued: 0,
-            names: 0,
-            multivalued: 0,
+            classes: Declarations::new(),
+            names: Declarations::new(),
             permitted: [0; PackedScheme::PERMITTED],
             permissions: 0,
         }
     }
+}
+
+// Whether the triple of classes is permitted.
+pub fn permits(permitted: &[u64], source: u64, name: u64, target: u64) -> bool
+    requires { ⌜ triplesRise (now permitted) ≡ true ⌝ }
+    requires { ⌜ (source < 2 ^ 16) × (name < 2 ^ 6) × (target < 2 ^ 16) ⌝ }
+    ensures { λ r. ⌜ r ≡ has (map unpackTriple (now (permitted .entry))) (triple source name target) ⌝ }
+{
+    has_key(
+        permitted,
+        source * TRIPLE_SOURCE + name * TRIPLE_NAME + target,
+    )
 }

@@ -6,7 +6,7 @@ use Rattle.graph.proofs.pattern.PackedPattern.new.Tie as tie
 
 returns : tie.Need-returns
 unfolding unpackPattern
-returns c = record { empty = refl; nodesRoom = refl; edgesRoom = refl }
+returns c = record { empty = refl; order = refl; size = refl; nodesRoom = refl; edgesRoom = refl }
 
 pub new-spec : {M : Type 1} → statement M
 new-spec = tie.close (tie.spec returns)

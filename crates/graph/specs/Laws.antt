@@ -1,0 +1,5 @@
+-- Laws of what stored values mean, by subject.
+pub mod Sets
+pub mod Triples
+pub mod Keys
+pub mod Fresh
