@@ -1,0 +1,65 @@
+-- `inspect::show_drawing` meets its contract: an accepted file's scheme is stored as it should be. Assumes nothing.
+use borrow.Author.Needs.{needs}
+use Rattle.inspect.proofs.show_drawing.Statement.{statement}
+use Rattle.inspect.proofs.show_drawing.Tie as tie
+
+read-drawing-requires : tie.Need-read-drawing-requires
+read-drawing-requires c κs = search needs
+
+enum-told : tie.Need-enum-told
+enum-told c = search needs
+
+slice-aggregate-print-number : tie.Need-slice-aggregate-print-number
+slice-aggregate-print-number c = search needs
+
+count-requires : tie.Need-count-requires
+count-requires c κs = search needs
+
+print-number-requires : tie.Need-print-number-requires
+print-number-requires c κs = search needs
+
+slice-aggregate-print-number-2 : tie.Need-slice-aggregate-print-number-2
+slice-aggregate-print-number-2 c = search needs
+
+count-requires-2 : tie.Need-count-requires-2
+count-requires-2 c κs = search needs
+
+print-number-requires-2 : tie.Need-print-number-requires-2
+print-number-requires-2 c κs = search needs
+
+slice-aggregate-write-all : tie.Need-slice-aggregate-write-all
+slice-aggregate-write-all c = search needs
+
+write-all-requires : tie.Need-write-all-requires
+write-all-requires c κs = search needs
+
+enum-known-answer : tie.Need-enum-known-answer
+enum-known-answer c = search needs
+
+print-refused-requires : tie.Need-print-refused-requires
+print-refused-requires c κs = search needs
+
+returns : tie.Need-returns
+returns c = c .before .before .before .before .before .before .before .before .before .before .before .read-drawing .ensures .scheme (search needs)
+
+returns-2 : tie.Need-returns-2
+returns-2 c = search needs
+
+pub show-drawing-spec : {M : Type 1} → statement M
+show-drawing-spec =
+    tie.close
+    (tie.spec
+    read-drawing-requires
+    enum-told
+    slice-aggregate-print-number
+    count-requires
+    print-number-requires
+    slice-aggregate-print-number-2
+    count-requires-2
+    print-number-requires-2
+    slice-aggregate-write-all
+    write-all-requires
+    enum-known-answer
+    print-refused-requires
+    returns
+    returns-2)
