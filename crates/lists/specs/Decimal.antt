@@ -14,6 +14,10 @@ digits (suc k) n = let more = digits k (n / 10) ++ ((48 + n % 10) ∷ []) in con
 abbrev pub decimal : ℕ → List ℕ
 decimal n = digits (suc n) n
 
+-- no number of 64 bits has more digits
+abbrev pub mostDigits : ℕ
+mostDigits = 20
+
 -- the number that digits spell when they follow the digits of v
 abbrev pub valueFrom : ℕ → List ℕ → ℕ
 valueFrom v [] = v

@@ -5,6 +5,7 @@ pub mod Decimal
 pub mod Text
 pub mod Count
 pub mod Radix
+pub mod Buffers
 pub mod Apart
 pub mod Maps
 pub mod Places

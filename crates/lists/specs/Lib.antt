@@ -4,4 +4,5 @@ pub mod Order
 pub mod Text
 pub mod Decimal
 pub mod Radix
+pub mod Buffers
 pub mod Laws

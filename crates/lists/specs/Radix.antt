@@ -1,7 +1,7 @@
 -- Lists of numbers below limits, and each such list as one number in mixed radix.
-use Prim.Native.Nat.{ℕ, _+_, _*_, _/_, _%_}
+use Prim.Native.Nat.{ℕ, zero, suc, _+_, _*_, _/_, _%_}
 use mathlib.Core.Bool.{Bool, true, false, _&&_}
-use mathlib.Core.List.{List, [], _∷_}
+use mathlib.Core.List.{List, [], _∷_, _++_}
 use lib.Dec.{ltb}
 
 abbrev pub product : List ℕ → ℕ
@@ -25,3 +25,8 @@ rank (b ∷ bs) (n ∷ ns) = n * product bs + rank bs ns
 abbrev pub unrank : (limits : List ℕ) → ℕ → List ℕ
 unrank [] k = []
 unrank (b ∷ bs) k = k / product bs ∷ unrank bs (k % product bs)
+
+-- the k lowest digits of a number in a base, the lowest last; digit d stands as first + d
+unfoldable pub lowest : (base first k n : ℕ) → List ℕ
+lowest base first zero n = []
+lowest base first (suc k) n = lowest base first k (n / base) ++ ((first + n % base) ∷ [])

@@ -5,10 +5,11 @@ use mathlib.Core.Logic.{_↔_, _⊎_}
 use mathlib.Core.Bool.{Bool, true, false}
 use mathlib.Core.Option.{Option, none, some}
 use mathlib.Core.List.{List, [], _∷_, _++_, map}
-use lib.ListN.{length, take, drop}
+use lib.ListN.{length, take}
 use lib.Dec.{eqb}
 use Rattle.lists.specs.Lists.{_∈_, keep, _!_}
 use Rattle.lists.specs.Order.{rising}
+use Rattle.lists.specs.Buffers.{atFront}
 use Rattle.model.specs.Limits
 use Rattle.model.specs.Graph.{Triple, Scheme, Node, Instance, Pattern, row, stands}
 use Rattle.model.specs.Matching.{image}
@@ -172,6 +173,10 @@ pub record Reports (p : Pattern) (old new : Instance) (k : Counts) : Type 0 wher
 abbrev pub lineCount : List ℕ → ℕ
 lineCount text = length (keep (eqb 10) text)
 
+-- no accepted drawing file has more bytes: each kind of line at its widest, and in full number
+abbrev pub mostOfDrawing : ℕ
+mostOfDrawing = 20032
+
 -- the first bytes of a file and of a rule text that decide how it is answered: enough for one more line of each kind than may stand, each at
 -- its widest
 abbrev pub enoughOfDrawing : ℕ
@@ -203,7 +208,7 @@ pub record Applied (s : Scheme) (d : Instance) (cs : List Instance) (rule : List
 
 -- what save leaves of a buffer that is long enough, and its answer
 abbrev pub written : Record → (file buffer : List ℕ) → Left (Outcome Report)
-written r file buffer = record { state = r; answer = accepted (saved (length file)); buffer = file ++ drop (length file) buffer }
+written r file buffer = record { state = r; answer = accepted (saved (length file)); buffer = atFront file buffer }
 
 -- the call with its text cut to so many bytes: a file to m, a rule to n
 abbrev pub cutTexts : (m n : ℕ) → Call → Call

@@ -2,9 +2,10 @@
 use Prim.Native.Nat.{ℕ}
 use mathlib.Core.Bool.{cond}
 use mathlib.Core.Option.{Option, none, some}
-use mathlib.Core.List.{List, [], _∷_, _++_}
-use lib.ListN.{length, take, drop}
+use mathlib.Core.List.{List, [], _∷_}
+use lib.ListN.{length, take}
 use lib.Dec.{eqb, leb}
+use Rattle.lists.specs.Buffers.{atFront}
 use Rattle.model.specs.Limits
 use Rattle.model.specs.Graph.{Scheme, Instance}
 use Rattle.model.specs.Matching.{matchings, smallest, smallestAfter}
@@ -99,7 +100,7 @@ accept (opened s d cs) (Save buffer) =
     let file = fileText s d in
     let n = length file in
     cond (leb n (length buffer))
-    (accepted (record { state = opened s d cs; answer = saved n; buffer = file ++ drop n buffer }))
+    (accepted (record { state = opened s d cs; answer = saved n; buffer = atFront file buffer }))
     (refused (BufferShort n))
 
 -- the buffer that a call lends, as it is before the call

@@ -1,6 +1,7 @@
--- A number's numeral reads back as the number, a numeral is its number's numeral, and larger numbers have numerals at least as long.
+-- A number's numeral reads back as the number, a numeral is its number's numeral, larger numbers have numerals at least as long, and a numeral is
+-- its number's lowest digits.
 -- By induction from a tenth of a number to the number, once the digits are known not to depend on how many are allowed.
-use Prim.Native.Nat.{ℕ, zero, suc, _+_, _*_, _-_, _/_, _%_, _<_, _≤_}
+use Prim.Native.Nat.{ℕ, zero, suc, _+_, _*_, _-_, _/_, _%_, _^_, _<_, _≤_}
 use native.Mathlib.Omega.{arith}
 use mathlib.Core.Path.{_≡_, refl, ap, _∙_, sym, subst}
 use mathlib.Core.Bool.{Bool, true, false, not, false≢true}
@@ -9,7 +10,8 @@ use lib.ListN.{length, length-append}
 use lib.Dec.{eqb, ltb}
 use borrow.Author.Tests.{lt-ltb, le-ltb, ltb-true, ltb-false, ne-eqb}
 use Rattle.lists.specs.Lists.{_∈_, all, member}
-use Rattle.lists.specs.Decimal.{digits, decimal, valueFrom, value, isDigit, isNumeral}
+use Rattle.lists.specs.Decimal.{digits, decimal, mostDigits, valueFrom, value, isDigit, isNumeral}
+use Rattle.lists.specs.Radix.{lowest}
 use Rattle.lists.specs.Laws.Lists.{both, all-members, no-member, Truth}
 
 -- # The digits of a number
@@ -164,23 +166,37 @@ pub decimal-without : (c n : ℕ) → isDigit c ≡ false → member (decimal n)
 decimal-without c n h = no-member (eqb c) (decimal n) .1 (λ b i. ne-eqb c b (λ e. false≢true (sym h ∙ ap isDigit e ∙ decimal-digits n b i)))
 
 -- # Lengths
-length-one : (n : ℕ) → n < 10 → length (decimal n) ≡ 1
+pub length-one : (n : ℕ) → n < 10 → length (decimal n) ≡ 1
 length-one n h = ap length (decimal-one n h)
 
-length-more : (n : ℕ) → 10 ≤ n → length (decimal n) ≡ suc (length (decimal (n / 10)))
+pub length-more : (n : ℕ) → 10 ≤ n → length (decimal n) ≡ suc (length (decimal (n / 10)))
 length-more n h = ap length (decimal-more n h) ∙ length-append (decimal (n / 10)) ((48 + n % 10) ∷ []) ∙ (omega arith)
+
+pub length-positive : (n : ℕ) → 1 ≤ length (decimal n)
+length-positive =
+    by-tenths (λ n. 1 ≤ length (decimal n)) (λ n h. omega (arith, length-one n h)) (λ n h ih. omega (arith, length-more n h))
 
 -- a larger number's numeral is at least as long
 pub decimal-length : (m n : ℕ) → m ≤ n → length (decimal m) ≤ length (decimal n)
 decimal-length = by-tenths (λ m. (n : ℕ) → m ≤ n → length (decimal m) ≤ length (decimal n)) one more
   where
-    nonempty : (n : ℕ) (t : Bool) → ltb n 10 ≡ t → 1 ≤ length (decimal n)
-    nonempty n true e = omega (arith, length-one n (ltb-true n 10 e))
-    nonempty n false e = omega (arith, length-more n (ltb-false n 10 e))
-
     one : (m : ℕ) → m < 10 → (n : ℕ) → m ≤ n → length (decimal m) ≤ length (decimal n)
-    one m h n l = omega (arith, length-one m h, nonempty n (ltb n 10) refl)
+    one m h n l = omega (arith, length-one m h, length-positive n)
 
     more : (m : ℕ) → 10 ≤ m → ((n : ℕ) → m / 10 ≤ n → length (decimal (m / 10)) ≤ length (decimal n)) → (n : ℕ) → m ≤ n
         → length (decimal m) ≤ length (decimal n)
     more m h ih n l = omega (arith, length-more m h, length-more n (omega arith), ih (n / 10) (omega arith))
+
+pub word-length : (n : ℕ) → n < 2 ^ 64 → length (decimal n) ≤ mostDigits
+word-length n h = decimal-length n (2 ^ 64 - 1) (omega arith)
+
+-- # The lowest digits
+pub decimal-lowest : (n : ℕ) → decimal n ≡ lowest 10 48 (length (decimal n)) n
+unfolding lowest
+decimal-lowest = by-tenths (λ n. decimal n ≡ lowest 10 48 (length (decimal n)) n) one more
+  where
+    one : (n : ℕ) → n < 10 → decimal n ≡ lowest 10 48 (length (decimal n)) n
+    one n h = let e : n ≡ n % 10 = omega arith in decimal-one n h ∙ ap (λ d. (48 + d) ∷ []) e ∙ rw (length-one n h)
+
+    more : (n : ℕ) → 10 ≤ n → decimal (n / 10) ≡ lowest 10 48 (length (decimal (n / 10))) (n / 10) → decimal n ≡ lowest 10 48 (length (decimal n)) n
+    more n h ih = decimal-more n h ∙ ap (λ l. l ++ ((48 + n % 10) ∷ [])) ih ∙ rw (length-more n h)

@@ -16,7 +16,7 @@ use Rattle.model.specs.Refusals.{accepted, _>>=_}
 use Rattle.model.specs.Files.{numbersOf, read, tripleOf}
 use Rattle.model.specs.Files.DrawingFile.{DrawingKey, class=, name=, may=, node=, edge=, drawingForm, DrawingLines, drawingFormat, Contents}
 use Rattle.model.specs.Files.DrawingFile.{declaredOf, nodeOf, schemeIn, instanceIn, readDrawing, declaredRow, fileText}
-use Rattle.model.specs.Meaning.{lineCount, enoughOfDrawing}
+use Rattle.model.specs.Meaning.{lineCount, mostOfDrawing, enoughOfDrawing}
 use Rattle.model.specs.Laws.Outcomes.{then-accepted}
 use Rattle.model.specs.Laws.Lines.{textOf, Regular, Readable, accepted-readable}
 use Rattle.model.specs.Laws.Passing.{Passing, readable-passing, within-key, passing-in-order}
@@ -41,7 +41,7 @@ most-lines : mostLines drawingFormat ≡ 1152
 unfolding drawingFormat
 most-lines = refl
 
-most-bytes : mostBytes drawingFormat ≡ 20032
+most-bytes : mostBytes drawingFormat ≡ mostOfDrawing
 unfolding drawingFormat
 most-bytes = refl
 
@@ -70,7 +70,7 @@ drawing-opened t c h =
     accepted-same e = cc
 
 -- an accepted file has at most 1152 lines and 20032 bytes
-pub drawing-size : (t : List ℕ) (c : Contents) → readDrawing t ≡ accepted c → (lineCount t ≤ 1152) × (length t ≤ 20032)
+pub drawing-size : (t : List ℕ) (c : Contents) → readDrawing t ≡ accepted c → (lineCount t ≤ 1152) × (length t ≤ mostOfDrawing)
 unfolding readDrawing
 drawing-size t c h =
     let r = then-accepted (read drawingFormat t) (λ ls. accepted (contentsIn ls)) c .0 h in
