@@ -1,6 +1,6 @@
 -- What stored values mean: the scheme, instance, pattern, rule and copies that a packed value stands for. Every reading is total, so that no key
 -- has to be well formed to mean something.
-use Prim.Native.Nat.{ℕ, suc, _/_, _%_, _^_, _<_, _≤_}
+use Prim.Native.Nat.{ℕ, suc, _+_, _*_, _/_, _%_, _^_, _<_, _≤_}
 use mathlib.Core.Path.{_≡_}
 use mathlib.Core.Bool.{Bool, true, cond}
 use mathlib.Core.Option.{Option, none, some}
@@ -22,6 +22,16 @@ use Rattle.graph.specs.declared.instance.Found.the-variants.{At, Nothing
 use Rattle.graph.specs.declared.rule.PackedAction.{PackedAction}
 use Rattle.graph.specs.declared.rule.PackedRule.{PackedRule}
 use Rattle.graph.specs.declared.history.History.{History}
+
+-- how many values each number of a key has room for, in a triple, a node and a declared number
+abbrev pub tripleRooms : List ℕ
+tripleRooms = 2 ^ 16 ∷ 2 ^ 6 ∷ 2 ^ 16 ∷ []
+
+abbrev pub nodeRooms : List ℕ
+nodeRooms = 2 ^ 16 ∷ 2 ^ 6 ∷ 2 ^ 32 ∷ []
+
+abbrev pub declaredRooms : List ℕ
+declaredRooms = 2 ^ 6 ∷ 2 ∷ []
 
 -- source (16 bits), name (6), target (16): rising triples are rising keys. A permitted triple packs the same way.
 abbrev pub unpackTriple : ℕ → Triple
@@ -51,6 +61,13 @@ bit set n = set / 2 ^ n % 2
 unfoldable pub unpackDeclared : Declarations → List Declared
 unpackDeclared d =
     map {B = Declared} (λ n. record { number = n; kind = bit (d .second) n }) (keep (λ n. eqb (bit (d .declared) n) 1) (countFrom 0 Limits.classes))
+
+-- declared numbers as they are listed: number (6 bits), kind (1)
+abbrev pub packDeclared : Declared → ℕ
+packDeclared d = d .number * 2 + d .kind
+
+unfoldable pub declaredRows : Declarations → List ℕ
+declaredRows d = map packDeclared (unpackDeclared d)
 
 -- what the parts of a stored value stand for, of which the keys are those that stand
 abbrev pub schemeOf : (classes names : Declarations) → (permitted : List ℕ) → Scheme

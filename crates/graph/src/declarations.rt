@@ -3,12 +3,14 @@ ghost use mathlib.Core.Path.{_≡_};
 ghost use mathlib.Core.Bool.{true};
 ghost use lib.Dec.{ltb};
 ghost use lib.ListN.{length};
-ghost use Prim.Native.Nat.{_<_};
+ghost use Prim.Native.Nat.{_<_, _≤_};
 ghost use Rattle.lists.specs.Lists.{all};
 ghost use Rattle.model.specs.Limits;
 ghost use Rattle.model.specs.Graph.{declares, ofKind};
-ghost use Rattle.graph.specs.Packed.{unpackDeclared, Snug, FreshDeclarations, DeclaredWith};
+ghost use Rattle.graph.specs.Keys.{Front};
+ghost use Rattle.graph.specs.Packed.{unpackDeclared, declaredRows, Snug, FreshDeclarations, DeclaredWith};
 use crate::packing::KINDS;
+use crate::packing::NUMBERS;
 
 // Bit n stands for number n. `second` are those of kind 1: value classes, or multivalued names.
 #[repr(C)]
@@ -65,6 +67,24 @@ impl Declarations {
             declared: self.declared | 1 << n,
             second: self.second | kind << n,
         }
+    }
+
+    // The rows of the declared numbers, rising: number and kind.
+    pub fn rows(self, rows: &mut [u64]) -> usize
+        requires { ⌜ Limits.classes ≤ length (now rows) ⌝ }
+        ensures { λ r. ⌜ Front (now (rows .exit)) r (declaredRows self) ⌝ }
+    {
+        let mut count = 0;
+        let mut next = 0;
+        while next < NUMBERS {
+            let n = next;
+            next += 1;
+            if (self.declared >> n) % KINDS == 1 {
+                rows[count] = n * KINDS + (self.second >> n) % KINDS;
+                count += 1;
+            }
+        }
+        count
     }
 
     // "how many classes and how many names were declared"

@@ -1,14 +1,14 @@
--- Declared numbers as sets of bits: which are declared, of which kind, one more above all, and how many. The declared numbers below k + 1
--- are those below k, and then k if its bit is set: the laws follow from those of a number's binary digits, by induction on k.
+-- Declared numbers as sets of bits: which are declared, of which kind, one more above all, how many, and their rows in turn. The declared numbers
+-- below k + 1 are those below k, and then k if its bit is set: the laws follow from those of a number's binary digits, by induction on k.
 use Prim.Native.Nat.{ℕ, zero, suc, _+_, _-_, _*_, _/_, _%_, _^_, _<_, _≤_, zero-le}
 use mathlib.Core.Path.{_≡_, refl, sym, ap, ap₂, _∙_}
 use mathlib.Core.Bool.{Bool, true, false, cond, _&&_, and-true}
-use mathlib.Core.List.{List, [], _∷_, _++_, append-nil, List·Memᴰ·head, Memᴰ·append-right}
+use mathlib.Core.List.{List, [], _∷_, _++_, map, append-nil, map-append, List·Memᴰ·head, Memᴰ·append-right}
 use native.Mathlib.Nat.{mod-one, mod-eq-of-lt, mod-lt, div-eq-of-lt, lt-of-lt-of-le, zero-add, add-comm, pow-suc}
-use native.Mathlib.Numerals.{one-add}
+use native.Mathlib.Numerals.{add-one, one-add}
 use native.Mathlib.Decide.{le-ind}
 use native.Mathlib.Omega.{arith}
-use lib.ListN.{length, length-append}
+use lib.ListN.{length, take, set, length-append, length-set}
 use lib.Dec.{eqb, ltb}
 use lib.Arith.{digits-lt}
 use lib.Pow.{pow-pos, pow-mono, shl-exact, high, low, field, mod-pow-add, mod-mod-pow}
@@ -18,10 +18,11 @@ use borrow.Author.Tests.{ltb-true, eqb-true, eq-eqb, ne-eqb}
 use Rattle.lists.specs.Lists.{any, all, keep, each, countFrom}
 use Rattle.lists.specs.Laws.Lists.{both, any-member, all-members, in-map, in-keep, in-count, each-append, same-truth}
 use Rattle.lists.specs.Laws.Maps.{each-same, each-if}
-use Rattle.lists.specs.Laws.OneMore.{count-last}
+use Rattle.lists.specs.Laws.OneMore.{count-last, stored-last}
 use Rattle.model.specs.Limits
 use Rattle.model.specs.Graph.{Declared, declares, ofKind}
-use Rattle.graph.specs.Packed.{bit, unpackDeclared, Snug, FreshDeclarations, DeclaredWith}
+use Rattle.graph.specs.Keys.{Front}
+use Rattle.graph.specs.Packed.{bit, unpackDeclared, packDeclared, declaredRows, Snug, FreshDeclarations, DeclaredWith}
 use Rattle.graph.specs.declared.declarations.Declarations.{Declarations}
 
 -- # Binary digits
@@ -101,7 +102,7 @@ module _ (d : Declarations) (kind n : ℕ) (inLimit : n < Limits.classes) where
 abbrev entry : Declarations → ℕ → List Declared
 entry d n = cond (isDeclared d n) (declaredAt d n ∷ []) []
 
-unfoldable declaredBelow : ℕ → Declarations → List Declared
+unfoldable pub declaredBelow : ℕ → Declarations → List Declared
 declaredBelow k d = each (countFrom 0 k) (entry d)
 
 declaredBelow-limit : (d : Declarations) → unpackDeclared d ≡ declaredBelow Limits.classes d
@@ -201,3 +202,48 @@ count-below (suc k) d =
 
 pub count-declared : (d : Declarations) → d .declared < 2 ^ 64 → ones (d .declared) ≡ length (unpackDeclared d)
 count-declared d h = sym (ap length (declaredBelow-limit d) ∙ count-below Limits.classes d ∙ ap ones (mod-eq-of-lt h))
+
+-- # Rows, one declared number after another
+abbrev rowsBelow : ℕ → Declarations → List ℕ
+rowsBelow k d = map packDeclared (declaredBelow k d)
+
+rows-next : (k : ℕ) (d : Declarations) → rowsBelow (k + 1) d ≡ rowsBelow k d ++ map packDeclared (entry d k)
+rows-next k d = rw (add-one, declaredBelow-suc) (map-append packDeclared (declaredBelow k d) (entry d k))
+
+-- the rows of the declared numbers below `next` are listed
+pub record Listed (d : Declarations) (before : List ℕ) (count next : ℕ) (rows : List ℕ) : Type 0 where
+  pub reached : next ≤ Limits.classes
+  pub few : count ≤ next
+  pub as-long : length rows ≡ length before
+  pub listed : take count rows ≡ rowsBelow next d
+
+module _ (d : Declarations) (before : List ℕ) where
+  pub listed-none : Listed d before 0 0 before
+  unfolding declaredBelow
+  listed-none = record { reached = zero-le; few = zero-le; as-long = refl; listed = refl }
+
+  pub listed-all : (count next : ℕ) (rows : List ℕ) → Limits.classes ≤ length before → Limits.classes ≤ next → Listed d before count next rows
+      → Front rows count (declaredRows d)
+  unfolding declaredRows
+  listed-all count next rows room past h =
+      let all : next ≡ Limits.classes = omega arith in
+      record { few = omega arith; front = h .listed ∙ rw (all, declaredBelow-limit d) }
+
+  module _ (n count : ℕ) (rows : List ℕ) (room : Limits.classes ≤ length before) (inLimit : n < Limits.classes) (h : Listed d before count n rows) where
+    pub listed-more : bit (d .declared) n ≡ 1 → Listed d before (count + 1) (n + 1) (set rows count (n * 2 + bit (d .second) n))
+    listed-more e =
+        record {
+          reached = omega arith;
+          few = omega arith;
+          as-long = simp length-set (h .as-long);
+          listed = stored-last rows count (n * 2 + bit (d .second) n) (omega arith) ∙ rw (h .listed, rows-next n d, e);
+        }
+
+    pub listed-same : (bit (d .declared) n ≡ 1 → ⊥) → Listed d before count (n + 1) rows
+    listed-same e =
+        record {
+          reached = omega arith;
+          few = omega arith;
+          as-long = h .as-long;
+          listed = h .listed ∙ sym (rows-next n d ∙ rw (ne-eqb (bit (d .declared) n) 1 e) (append-nil (rowsBelow n d)));
+        }

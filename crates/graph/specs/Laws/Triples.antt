@@ -10,7 +10,6 @@ use lib.Dec.{eqb, ltb}
 use borrow.Author.Tests.{ltb-true, lt-ltb, le-ltb, eq-eqb, eqb-true}
 use Rattle.lists.specs.Lists.{member}
 use Rattle.lists.specs.Order.{same, before}
-use Rattle.lists.specs.Radix.{unrank}
 use Rattle.lists.specs.Laws.Lists.{same-truth, eqb-symmetric}
 use Rattle.lists.specs.Laws.Order.{same-list, before-cons, before-total}
 use Rattle.model.specs.Graph.{row, has}
@@ -35,13 +34,6 @@ unpack-packed s n t h k =
 
 packed-unpack : (k : ℕ) → k ≡ pack (k / 2 ^ 22) (k / 2 ^ 16 % 2 ^ 6) (k % 2 ^ 16)
 packed-unpack k = omega arith
-
--- the numbers of a triple are those of which its key is the rank
-pub triple-fields : (k : ℕ) → unrank (2 ^ 16 ∷ 2 ^ 6 ∷ 2 ^ 16 ∷ []) k ≡ row (unpackTriple k)
-triple-fields k =
-    let name : k % 2 ^ 22 / 2 ^ 16 ≡ k / 2 ^ 16 % 2 ^ 6 = omega arith in
-    let target : k % 2 ^ 22 % 2 ^ 16 / 1 ≡ k % 2 ^ 16 = omega arith in
-    ap₂ (λ n t. k / 2 ^ 22 ∷ n ∷ t ∷ []) name target
 
 -- # Order
 pack-rises : (s n t r m u : ℕ) → n < 2 ^ 6 → t < 2 ^ 16 → m < 2 ^ 6 → u < 2 ^ 16

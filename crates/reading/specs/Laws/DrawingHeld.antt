@@ -16,7 +16,7 @@ use Rattle.text.specs.Forms.{firstRuleKind}
 use Rattle.text.specs.Lines.{drawingKey, drawingLine, Tabled, FreshLast}
 use Rattle.text.specs.declared.lines.Line.{Line}
 use Rattle.text.specs.declared.lines.Last.{Last}
-use Rattle.graph.specs.Packed.{unpackTriple, unpackNode, unpackScheme, unpackInstance}
+use Rattle.graph.specs.Packed.{unpackTriple, unpackNode, unpackScheme, unpackInstance, StoredScheme, StoredInstance}
 use Rattle.reading.specs.Readers.{outcome}
 use Rattle.reading.specs.NextLine.{LineAt, NextDrawingLine}
 use Rattle.reading.specs.declared.lines.Next.{Next}
@@ -130,3 +130,11 @@ module _ {text : List ℕ} {at : ℕ} {last : Last} {t : Standing} {permitted no
         scheme = λ e. record { classes = r .fits .classes; names = r .fits .names; few = r .fits .permissions; listed = sound .scheme };
         instance = λ e. record { fewNodes = r .fits .order; fewEdges = r .fits .size; sound = sound };
       }
+
+-- # What was accepted
+module _ {text : List ℕ} {r : DrawingRead} (h : ReadDrawing text r) (opens : r .answer ≡ Accepted) where
+  pub read-scheme : StoredScheme (r .scheme)
+  read-scheme = h .scheme opens
+
+  pub read-instance : StoredInstance (unpackScheme (r .scheme)) (r .instance)
+  read-instance = h .instance opens

@@ -1,6 +1,6 @@
 -- A line of a drawing file, under lines that pass: its checks, told from the scheme and the instance that those lines hold, and what it adds.
 -- Lines that pass make an accepted file, which holds a sound drawing; in turn, a node stands before all edges, and rows rise.
-use Prim.Native.Nat.{ℕ, suc, _/_, _%_, _^_}
+use Prim.Native.Nat.{ℕ, suc, _/_, _%_}
 use native.Mathlib.Omega.{arith}
 use mathlib.Core.Path.{_≡_, refl, ap, ap₂, _∙_, sym}
 use mathlib.Core.Bool.{Bool, true, false, cond, not, _&&_, _||_, and-true}
@@ -26,8 +26,8 @@ use Rattle.model.specs.Laws.Passing.{Passing, numbers-append}
 use Rattle.model.specs.Laws.DrawingFiles.{drawing-regular, contentsIn, rows-in}
 use Rattle.model.specs.Laws.SoundFiles.{accepted-is-sound}
 use Rattle.text.specs.Forms.{drawingKind}
-use Rattle.graph.specs.Packed.{unpackTriple, unpackNode}
-use Rattle.graph.specs.Laws.Triples.{triple-fields}
+use Rattle.graph.specs.Packed.{tripleRooms, nodeRooms, declaredRooms, unpackTriple, unpackNode}
+use Rattle.graph.specs.Laws.Fields.{triple-fields, node-fields, declared-fields}
 use Rattle.reading.specs.Verdicts.{verdict, lastShares}
 use Rattle.reading.specs.Drawing.{mayChecks, nodeChecks, edgeChecks, lineChecks, linesAbove, schemeWith, instanceWith}
 use Rattle.reading.specs.Laws.Verdicts.{verdictOf, Agree, agree-same, verdict-agrees}
@@ -35,19 +35,14 @@ use Rattle.reading.specs.Laws.Edges.{edge-conforms, node-conforms}
 use Rattle.reading.specs.Laws.InTurn.{none-later, rows-rise-with}
 
 -- # A row and its numbers
-row-triple : (r : ℕ) → tripleOf (unrank (2 ^ 16 ∷ 2 ^ 6 ∷ 2 ^ 16 ∷ []) r) ≡ unpackTriple r
+row-triple : (r : ℕ) → tripleOf (unrank tripleRooms r) ≡ unpackTriple r
 row-triple r = ap tripleOf (triple-fields r)
 
-row-node : (r : ℕ) → nodeOf (unrank (2 ^ 16 ∷ 2 ^ 6 ∷ 2 ^ 32 ∷ []) r) ≡ unpackNode r
-row-node r =
-    let class : r % 2 ^ 38 / 2 ^ 32 ≡ r / 2 ^ 32 % 2 ^ 6 = omega arith in
-    let value : r % 2 ^ 38 % 2 ^ 32 / 1 ≡ r % 2 ^ 32 = omega arith in
-    ap₂ (λ c v. record { number = r / 2 ^ 38; class = c; value = v }) class value
+row-node : (r : ℕ) → nodeOf (unrank nodeRooms r) ≡ unpackNode r
+row-node r = ap nodeOf (node-fields r)
 
-row-declared : (r : ℕ) → declaredOf (unrank (2 ^ 6 ∷ 2 ∷ []) r) ≡ record { number = r / 2; kind = r % 2 }
-row-declared r =
-    let kind : r % 2 / 1 ≡ r % 2 = omega arith in
-    ap (λ k. record { number = r / 2; kind = k }) kind
+row-declared : (r : ℕ) → declaredOf (unrank declaredRooms r) ≡ record { number = r / 2; kind = r % 2 }
+row-declared r = ap declaredOf (declared-fields r)
 
 -- the line that a key and a row are
 abbrev pub rowLine : DrawingKey → (row : ℕ) → Line DrawingKey

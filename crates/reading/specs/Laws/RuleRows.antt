@@ -19,7 +19,7 @@ use Rattle.text.specs.Lines.{ruleKey, ruleLine, Tabled}
 use Rattle.text.specs.Laws.Kinds.{rule-kind}
 use Rattle.text.specs.declared.lines.Line.{Line as PackedLine}
 use Rattle.graph.specs.Packed.{unpackTriple}
-use Rattle.graph.specs.Laws.Triples.{triple-fields}
+use Rattle.graph.specs.Laws.Fields.{triple-fields}
 use Rattle.reading.specs.Rules.{Parts, with}
 
 -- # A line's numbers
