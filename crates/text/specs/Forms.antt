@@ -9,6 +9,7 @@ use Rattle.lists.specs.Radix.{product}
 use Rattle.model.specs.Files.{Form}
 use Rattle.model.specs.Files.DrawingFile.{DrawingKey, class=, name=, may=, node=, edge=, drawingForm, drawingKeys}
 use Rattle.model.specs.Files.RuleText.{RuleKey, op=, pnode=, pedge=, make=, arm=, put=, drop=, cut=, group=, ruleForm, ruleKeys}
+use Rattle.graph.specs.Packed.{tripleRooms, nodeRooms, declaredRooms}
 use Rattle.text.specs.declared.forms.Form.{Form as PackedForm}
 
 -- a kind of line: its form, and how many values each of its numbers has room for in the line's row
@@ -16,26 +17,23 @@ pub record Kind : Type 0 where
   pub form : Form
   pub rooms : List ℕ
 
--- a triple's row is its key as it is stored; so are those of a node and a pattern node
-abbrev triple : List ℕ
-triple = 2 ^ 16 ∷ 2 ^ 6 ∷ 2 ^ 16 ∷ []
-
+-- the row of a triple, a node and a pattern node is its key as it is stored
 abbrev pub drawingKind : DrawingKey → Kind
-drawingKind class= = record { form = drawingForm class=; rooms = 2 ^ 6 ∷ 2 ∷ [] }
-drawingKind name= = record { form = drawingForm name=; rooms = 2 ^ 6 ∷ 2 ∷ [] }
-drawingKind may= = record { form = drawingForm may=; rooms = triple }
-drawingKind node= = record { form = drawingForm node=; rooms = 2 ^ 16 ∷ 2 ^ 6 ∷ 2 ^ 32 ∷ [] }
-drawingKind edge= = record { form = drawingForm edge=; rooms = triple }
+drawingKind class= = record { form = drawingForm class=; rooms = declaredRooms }
+drawingKind name= = record { form = drawingForm name=; rooms = declaredRooms }
+drawingKind may= = record { form = drawingForm may=; rooms = tripleRooms }
+drawingKind node= = record { form = drawingForm node=; rooms = nodeRooms }
+drawingKind edge= = record { form = drawingForm edge=; rooms = tripleRooms }
 
 abbrev pub ruleKind : RuleKey → Kind
 ruleKind op= = record { form = ruleForm op=; rooms = 2 ^ 16 ∷ [] }
 ruleKind pnode= = record { form = ruleForm pnode=; rooms = 2 ^ 6 ∷ 2 ∷ 2 ^ 32 ∷ [] }
-ruleKind pedge= = record { form = ruleForm pedge=; rooms = triple }
+ruleKind pedge= = record { form = ruleForm pedge=; rooms = tripleRooms }
 ruleKind make= = record { form = ruleForm make=; rooms = 2 ^ 6 ∷ [] }
 ruleKind arm= = record { form = ruleForm arm=; rooms = 2 ^ 6 ∷ 2 ^ 16 ∷ [] }
-ruleKind put= = record { form = ruleForm put=; rooms = triple }
+ruleKind put= = record { form = ruleForm put=; rooms = tripleRooms }
 ruleKind drop= = record { form = ruleForm drop=; rooms = 2 ^ 16 ∷ [] }
-ruleKind cut= = record { form = ruleForm cut=; rooms = triple }
+ruleKind cut= = record { form = ruleForm cut=; rooms = tripleRooms }
 ruleKind group= = record { form = ruleForm group=; rooms = 2 ^ 16 ∷ 2 ^ 6 ∷ 2 ^ 6 ∷ 2 ^ 6 ∷ [] }
 
 -- kinds are numbered: those of a drawing file from 0, then those of a rule text
@@ -61,8 +59,12 @@ keyFrom v (b ∷ bs) = keyFrom (v * 256 + b) bs
 unfoldable pub keyNumber : List ℕ → ℕ
 keyNumber bs = cond (ltb 5 (length bs)) 0 (keyFrom 1 bs)
 
+-- no line has more numbers
+abbrev pub mostNumbers : ℕ
+mostNumbers = 4
+
 abbrev pub padded : List ℕ → List ℕ
-padded ns = take 4 (ns ++ (0 ∷ 0 ∷ 0 ∷ 0 ∷ []))
+padded ns = take mostNumbers (ns ++ (0 ∷ 0 ∷ 0 ∷ 0 ∷ []))
 
 -- what leaves of a row the numbers by which it must rise: 0 where it need not
 abbrev pub divisor : Option ℕ → List ℕ → ℕ
@@ -78,6 +80,7 @@ unfolding keyNumber
 packedForm k =
     record {
       key = keyNumber (k .form .key);
+      letters = length (k .form .key);
       numbers = length (k .form .below);
       below = padded (k .form .below);
       room = padded (k .rooms);

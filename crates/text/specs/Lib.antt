@@ -2,4 +2,5 @@
 pub mod Scan
 pub mod Forms
 pub mod Lines
+pub mod Written
 pub mod Laws

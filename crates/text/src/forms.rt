@@ -15,10 +15,12 @@ use graph::pattern::PackedPattern;
 use graph::rule::PackedAction;
 use graph::scheme::PackedScheme;
 
-// `key` is the key's bytes as one number after a 1, in base 256. A line's numbers are kept as one number, its row: `room` is how many values
-// a number has room for there. Lines of one kind rise by their rows divided by `by`; 0: in any order. `most` is 0 where nothing limits them.
+// `key` is the key's bytes, `letters` in number, as one number after a 1, in base 256. A line's numbers are kept as one number, its row: `room`
+// is how many values a number has room for there. Lines of one kind rise by their rows divided by `by`; 0: in any order. `most` is 0 where
+// nothing limits them.
 pub struct Form {
     pub key: u64,
+    pub letters: usize,
     pub numbers: usize,
     pub below: [u32; Form::NUMBERS],
     pub room: [u64; Form::NUMBERS],
@@ -81,6 +83,7 @@ const FORMS: [Form; Form::KINDS] = [
     // class=number,kind
     Form {
         key: 0x1_63_6c_61_73_73,
+        letters: 5,
         numbers: 2,
         below: [NUMBER_BOUND, KIND_BOUND, 0, 0],
         room: [NUMBERS, KINDS, 0, 0],
@@ -90,6 +93,7 @@ const FORMS: [Form; Form::KINDS] = [
     // name=number,kind
     Form {
         key: 0x1_6e_61_6d_65,
+        letters: 4,
         numbers: 2,
         below: [NUMBER_BOUND, KIND_BOUND, 0, 0],
         room: [NUMBERS, KINDS, 0, 0],
@@ -99,6 +103,7 @@ const FORMS: [Form; Form::KINDS] = [
     // may=class,name,class
     Form {
         key: 0x1_6d_61_79,
+        letters: 3,
         numbers: 3,
         below: [NUMBER_BOUND, NUMBER_BOUND, NUMBER_BOUND, 0],
         room: [NODE_NUMBERS, NUMBERS, NODE_NUMBERS, 0],
@@ -108,6 +113,7 @@ const FORMS: [Form; Form::KINDS] = [
     // node=number,class,value
     Form {
         key: 0x1_6e_6f_64_65,
+        letters: 4,
         numbers: 3,
         below: [NODE_BOUND, NUMBER_BOUND, VALUE_BOUND, 0],
         room: [NODE_NUMBERS, NUMBERS, VALUE_ROOM, 0],
@@ -117,6 +123,7 @@ const FORMS: [Form; Form::KINDS] = [
     // edge=source,name,target
     Form {
         key: 0x1_65_64_67_65,
+        letters: 4,
         numbers: 3,
         below: [NODE_BOUND, NUMBER_BOUND, NODE_BOUND, 0],
         room: [NODE_NUMBERS, NUMBERS, NODE_NUMBERS, 0],
@@ -126,6 +133,7 @@ const FORMS: [Form; Form::KINDS] = [
     // op=code
     Form {
         key: 0x1_6f_70,
+        letters: 2,
         numbers: 1,
         below: [CODE_BOUND, 0, 0, 0],
         room: [NODE_NUMBERS, 0, 0, 0],
@@ -135,6 +143,7 @@ const FORMS: [Form; Form::KINDS] = [
     // pnode=class,given,value
     Form {
         key: 0x1_70_6e_6f_64_65,
+        letters: 5,
         numbers: 3,
         below: [NUMBER_BOUND, KIND_BOUND, VALUE_BOUND, 0],
         room: [NUMBERS, KINDS, VALUE_ROOM, 0],
@@ -144,6 +153,7 @@ const FORMS: [Form; Form::KINDS] = [
     // pedge=node,name,node
     Form {
         key: 0x1_70_65_64_67_65,
+        letters: 5,
         numbers: 3,
         below: [PNODE_BOUND, NUMBER_BOUND, PNODE_BOUND, 0],
         room: [NODE_NUMBERS, NUMBERS, NODE_NUMBERS, 0],
@@ -153,6 +163,7 @@ const FORMS: [Form; Form::KINDS] = [
     // make=class
     Form {
         key: 0x1_6d_61_6b_65,
+        letters: 4,
         numbers: 1,
         below: [NUMBER_BOUND, 0, 0, 0],
         room: [NUMBERS, 0, 0, 0],
@@ -162,6 +173,7 @@ const FORMS: [Form; Form::KINDS] = [
     // arm=name,node
     Form {
         key: 0x1_61_72_6d,
+        letters: 3,
         numbers: 2,
         below: [NUMBER_BOUND, PNODE_BOUND, 0, 0],
         room: [NUMBERS, NODE_NUMBERS, 0, 0],
@@ -171,6 +183,7 @@ const FORMS: [Form; Form::KINDS] = [
     // put=node,name,node
     Form {
         key: 0x1_70_75_74,
+        letters: 3,
         numbers: 3,
         below: [PNODE_BOUND, NUMBER_BOUND, PNODE_BOUND, 0],
         room: [NODE_NUMBERS, NUMBERS, NODE_NUMBERS, 0],
@@ -180,6 +193,7 @@ const FORMS: [Form; Form::KINDS] = [
     // drop=node
     Form {
         key: 0x1_64_72_6f_70,
+        letters: 4,
         numbers: 1,
         below: [PNODE_BOUND, 0, 0, 0],
         room: [NODE_NUMBERS, 0, 0, 0],
@@ -189,6 +203,7 @@ const FORMS: [Form; Form::KINDS] = [
     // cut=node,name,node
     Form {
         key: 0x1_63_75_74,
+        letters: 3,
         numbers: 3,
         below: [PNODE_BOUND, NUMBER_BOUND, PNODE_BOUND, 0],
         room: [NODE_NUMBERS, NUMBERS, NODE_NUMBERS, 0],
@@ -198,6 +213,7 @@ const FORMS: [Form; Form::KINDS] = [
     // group=p,K,a,b
     Form {
         key: 0x1_67_72_6f_75_70,
+        letters: 5,
         numbers: 4,
         below: [PNODE_BOUND, NUMBER_BOUND, NUMBER_BOUND, NUMBER_BOUND],
         room: [NODE_NUMBERS, NUMBERS, NUMBERS, NUMBERS],
@@ -214,7 +230,7 @@ pub fn form_at(kind: usize) -> Form
 }
 
 // How many bytes there are.
-const BYTES: u64 = 256;
+pub const BYTES: u64 = 256;
 
 // A key's bytes as one number; 0 where they are more than any key has.
 pub fn key_of(s: &[u8]) -> u64

@@ -5,14 +5,16 @@ use native.Mathlib.Omega.{arith}
 use mathlib.Core.Path.{_≡_, refl, ap, _∙_, sym}
 use mathlib.Core.Bool.{Bool, true, false, not, _&&_, false≢true}
 use mathlib.Core.Option.{Option, none, some}
-use mathlib.Core.List.{List, [], _∷_, map}
-use lib.ListN.{length, getD, length-map, List·getD-map, List·getD-append}
-use lib.Seq.{getD-append-add}
+use mathlib.Core.List.{List, [], _∷_, _++_, map}
+use lib.ListN.{length, getD, take, drop, length-map, List·getD-map, List·getD-append}
+use lib.Seq.{getD-take, getD-append-add, take-append-seam}
 use lib.Dec.{ltb, leb}
 use borrow.Author.Tests.{le-leb, leb-true}
 use Rattle.lists.specs.Lists.{all, countFrom, _!_}
-use Rattle.lists.specs.Radix.{product, within}
+use Rattle.lists.specs.Order.{same}
+use Rattle.lists.specs.Radix.{product, within, lowest}
 use Rattle.lists.specs.Laws.Lists.{both, less, at-most, not-so, all-members, in-count}
+use Rattle.lists.specs.Laws.Order.{same-list}
 use Rattle.lists.specs.Laws.Places.{at-place, getD-inside, count-at}
 use Rattle.lists.specs.Laws.Apart.{apart-determined}
 use Rattle.lists.specs.Laws.Count.{within-cons, within-length}
@@ -21,7 +23,7 @@ use Rattle.model.specs.Files.DrawingFile.{DrawingKey, class=, name=, may=, node
 use Rattle.model.specs.Files.RuleText.{RuleKey, op=, pnode=, pedge=, make=, arm=, put=, drop=, cut=, group=, ruleForm}
 use Rattle.model.specs.Files.RuleText.{ruleKeys}
 use Rattle.model.specs.Files.DrawingFile.{drawingKeys}
-use Rattle.text.specs.Forms.{Kind, drawingKind, ruleKind, firstRuleKind, kindCount, kinds, kindAt, orZero, packedForm}
+use Rattle.text.specs.Forms.{Kind, drawingKind, ruleKind, firstRuleKind, kindCount, kinds, kindAt, keyNumber, mostNumbers, padded, orZero, packedForm}
 use Rattle.text.specs.Lines.{drawingKey, ruleKey}
 use Rattle.text.specs.Laws.Scan.{Bytes, bytes-tested}
 use Rattle.text.specs.declared.forms.Form.{Form as PackedForm}
@@ -52,13 +54,14 @@ wider (b ∷ bs) [] h i l = absurd (false≢true h)
 wider (b ∷ bs) (r ∷ rs) h zero l = omega (arith, within-cons (suc r) b (map suc rs) bs .0 h .0)
 wider (b ∷ bs) (r ∷ rs) h (suc i) l = wider bs rs (within-cons (suc r) b (map suc rs) bs .0 h .1) i (omega arith)
 
--- there is a room for each number of a line, at least as wide as its limit; at most 4 numbers, rows below 2 ^ 54, and
+-- there is a room for each number of a line, at least as wide as its limit; 1 to 4 numbers, rows below 2 ^ 54, and
 -- there may be such a line
 pub record Roomy (k : Kind) : Type 0 where
   pub fits : (ns : List ℕ) → within (k .form .below) ns ≡ true → within (k .rooms) ns ≡ true
   pub wide : (i : ℕ) → i < length (k .form .below) → k .form .below ! i ≤ k .rooms ! i
   pub as-many : length (k .rooms) ≡ length (k .form .below)
-  pub few : length (k .form .below) ≤ 4
+  pub some-number : 1 ≤ length (k .form .below)
+  pub few : length (k .form .below) ≤ mostNumbers
   pub some-room : 0 < product (k .rooms)
   pub small : product (k .rooms) ≤ 2 ^ 54
   pub one-may-stand : full (k .form .most) 0 ≡ false
@@ -66,8 +69,9 @@ pub record Roomy (k : Kind) : Type 0 where
 abbrev roomy : Kind → Bool
 roomy k =
     within (map suc (k .rooms)) (k .form .below)
-    && (leb (length (k .form .below)) 4
-    && (ltb 0 (product (k .rooms)) && (leb (product (k .rooms)) (2 ^ 54) && not (full (k .form .most) 0))))
+    && (leb 1 (length (k .form .below))
+    && (leb (length (k .form .below)) mostNumbers
+    && (ltb 0 (product (k .rooms)) && (leb (product (k .rooms)) (2 ^ 54) && not (full (k .form .most) 0)))))
 
 roomy-kind : (k : Kind) → roomy k ≡ true → Roomy k
 roomy-kind k h =
@@ -76,10 +80,11 @@ roomy-kind k h =
       fits = λ ns. within-wider (k .form .below) (k .rooms) ns (t .0);
       wide = λ i l. wider (k .form .below) (k .rooms) (t .0) i l;
       as-many = sym (within-length (map suc (k .rooms)) (k .form .below) (t .0) ∙ length-map (k .rooms) suc);
-      few = t .1 .0;
-      some-room = t .1 .1 .0;
-      small = t .1 .1 .1 .0;
-      one-may-stand = t .1 .1 .1 .1;
+      some-number = t .1 .0;
+      few = t .1 .1 .0;
+      some-room = t .1 .1 .1 .0;
+      small = t .1 .1 .1 .1 .0;
+      one-may-stand = t .1 .1 .1 .1 .1;
     }
 
 pub kind-roomy : (kind : ℕ) → kind < kindCount → Roomy (kindAt kind)
@@ -97,11 +102,50 @@ kind-spelled kind h =
     let t = both (all (λ b. ltb b 256) key) (leb (length key) 5) .0 (all-at spelled kinds kind (drawingKind class=) refl h) in
     (bytes-tested key (t .0), leb-true (length key) 5 (t .1))
 
+-- a key's bytes are the digits of its number
+pub kind-written : (kind : ℕ) → kind < kindCount
+    → lowest 256 0 (length (kindAt kind .form .key)) (keyNumber (kindAt kind .form .key)) ≡ kindAt kind .form .key
+unfolding kinds kindAt lowest keyNumber
+kind-written kind h =
+    let key = kindAt kind .form .key in
+    same-list (lowest 256 0 (length key) (keyNumber key)) key .0
+    (all-at (λ k. same (lowest 256 0 (length (k .form .key)) (keyNumber (k .form .key))) (k .form .key)) kinds kind (drawingKind class=) refl h)
+
 pub keys-apart : (i j : ℕ) → i < kindCount → j < kindCount → kindAt i .form .key ≡ kindAt j .form .key → i ≡ j
 unfolding kinds kindAt
 keys-apart i j h k =
     apart-determined (λ n. kindAt n .form .key) (countFrom 0 kindCount) refl (in-count 0 kindCount i .1 (omega arith, h))
     (in-count 0 kindCount j .1 (omega arith, k))
+
+-- # Numbers of a form, in an array of four
+pub padded-at : (ns : List ℕ) (i : ℕ) → length ns ≤ mostNumbers → i < length ns → getD (padded ns) i 0 ≡ getD ns i 0
+padded-at ns i few h = getD-take mostNumbers (ns ++ (0 ∷ 0 ∷ 0 ∷ 0 ∷ [])) i 0 (omega arith) ∙ List·getD-append ns (0 ∷ 0 ∷ 0 ∷ 0 ∷ []) 0 i h
+
+pub filled : (ns : List ℕ) → length ns ≤ mostNumbers → ns ++ drop (length ns) (0 ∷ 0 ∷ 0 ∷ 0 ∷ []) ≡ padded ns
+filled [] h = refl
+filled (a ∷ []) h = refl
+filled (a ∷ b ∷ []) h = refl
+filled (a ∷ b ∷ c ∷ []) h = refl
+filled (a ∷ b ∷ c ∷ d ∷ []) h = refl
+filled (a ∷ b ∷ c ∷ d ∷ e ∷ ns) h = absurd (omega arith)
+
+pub padded-front : (ns : List ℕ) → length ns ≤ mostNumbers → take (length ns) (padded ns) ≡ ns
+padded-front ns h = ap (take (length ns)) (sym (filled ns h)) ∙ take-append-seam ns (drop (length ns) (0 ∷ 0 ∷ 0 ∷ 0 ∷ []))
+
+module _ (kind : ℕ) (h : kind < kindCount) {form : PackedForm} (made : form ≡ packedForm (kindAt kind)) where
+  pub form-numbers : form .numbers ≡ length (kindAt kind .rooms)
+  unfolding packedForm
+  form-numbers = ap (λ f. f .numbers) made ∙ sym (kind-roomy kind h .as-many)
+
+  pub form-few : form .numbers ≤ mostNumbers
+  form-few = let k = kind-roomy kind h in omega (arith, form-numbers, k .as-many, k .few)
+
+  pub form-room : (i : ℕ) → i < form .numbers → getD (form .room) i 0 ≡ getD (kindAt kind .rooms) i 0
+  unfolding packedForm
+  form-room i l =
+      let k = kind-roomy kind h in
+      ap (λ f. getD (f .room) i 0) made
+      ∙ padded-at (kindAt kind .rooms) i (omega (arith, k .few, k .as-many)) (omega (arith, form-numbers))
 
 -- # How many lines may stand
 full-unlimited : (most : Option ℕ) (above : ℕ) → full most 0 ≡ false → orZero most ≡ 0 → full most above ≡ false

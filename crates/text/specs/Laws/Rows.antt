@@ -5,9 +5,9 @@ use native.Mathlib.Omega.{arith}
 use native.Mathlib.Numerals.{add-one}
 use mathlib.Core.Path.{_≡_, refl, ap, ap₂, _∙_, sym}
 use mathlib.Core.Bool.{Bool, true, false, cond, _&&_}
-use mathlib.Core.List.{List, [], _∷_, _++_, map}
-use lib.ListN.{length, getD, take, drop, length-drop, drop-of-length-le, List·getD-append}
-use lib.Seq.{take-all, drop-drop, drop-cons, getD-take}
+use mathlib.Core.List.{List, [], _∷_, map}
+use lib.ListN.{length, getD, take, drop, length-drop, drop-of-length-le}
+use lib.Seq.{take-all, drop-drop, drop-cons}
 use lib.Dec.{ltb}
 use borrow.Rule.Slice.PartAt.{part-to-end}
 use borrow.Author.Tests.{lt-ltb, le-ltb, ltb-true, ltb-false}
@@ -18,10 +18,10 @@ use Rattle.lists.specs.Laws.Lists.{both}
 use Rattle.lists.specs.Laws.Radix.{product-left}
 use Rattle.model.specs.Files.{inForm}
 use Rattle.text.specs.Scan.{upTo, numeralBelow}
-use Rattle.text.specs.Forms.{kindCount, kindAt, padded, packedForm}
+use Rattle.text.specs.Forms.{kindCount, kindAt, packedForm}
 use Rattle.text.specs.Lines.{rowIn}
 use Rattle.text.specs.Laws.Scan.{upTo-bound, pieces-up-to, pieces-whole}
-use Rattle.text.specs.Laws.Kinds.{kind-roomy}
+use Rattle.text.specs.Laws.Kinds.{kind-roomy, padded-at, form-room}
 use Rattle.text.specs.declared.forms.Form.{Form as PackedForm}
 use Rattle.text.specs.declared.numerals.Numeral.{Numeral}
 use Rattle.text.specs.declared.numerals.Numeral.the-variants.{Is, Malformed}
@@ -113,9 +113,6 @@ pub record Rowed (kind : ℕ) (form : PackedForm) (s : List ℕ) (row at i : ℕ
   pub room : (row + 1) * product (drop i (kindAt kind .rooms)) ≤ 2 ^ 54
   pub left : rowIn kind s ≡ rowLeft row (drop i (kindAt kind .form .below)) (drop i (kindAt kind .rooms)) (piecesFrom at s)
 
-padded-at : (ns : List ℕ) (i : ℕ) → length ns ≤ 4 → i < length ns → getD (padded ns) i 0 ≡ getD ns i 0
-padded-at ns i few h = getD-take 4 (ns ++ (0 ∷ 0 ∷ 0 ∷ 0 ∷ [])) i 0 (omega arith) ∙ List·getD-append ns (0 ∷ 0 ∷ 0 ∷ 0 ∷ []) 0 i h
-
 module _ {kind : ℕ} {form : PackedForm} {s : List ℕ} where
   pub rowed-none : kind < kindCount → form ≡ packedForm (kindAt kind) → Rowed kind form s 0 0 0
   unfolding packedForm rowIn rowLeft
@@ -188,10 +185,7 @@ module _ {kind : ℕ} {form : PackedForm} {s : List ℕ} where
         limit = ap (λ f. getD (f .below) i 0) (r .made) ∙ padded-at below i (omega (arith, numbers, r .few)) (omega (arith, numbers))
 
         width : getD (form .room) i 0 ≡ getD rooms i 0
-        unfolding packedForm
-        width =
-            let k = kind-roomy kind (r .known) in
-            ap (λ f. getD (f .room) i 0) (r .made) ∙ padded-at rooms i (omega (arith, numbers, r .few, k .as-many)) (omega (arith, numbers, k .as-many))
+        width = form-room kind (r .known) (r .made) i h
 
         numeral : numeralBelow (getD below i 0) (take n (drop at s)) ≡ m
         numeral =
