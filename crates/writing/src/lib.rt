@@ -1,0 +1,2 @@
+// From a scheme and an instance to a drawing file.
+pub mod save;
