@@ -1,0 +1,1 @@
+// Reading and writing drawing files, joined: theorems alone, in specs/.
