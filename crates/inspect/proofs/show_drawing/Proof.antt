@@ -1,4 +1,5 @@
--- `inspect::show_drawing` meets its contract: an accepted file's scheme is stored as it should be. Assumes nothing.
+-- `inspect::show_drawing` meets its contract: an accepted file's scheme and instance are stored as they should be. Assumes nothing.
+use Rattle.reading.specs.Laws.DrawingHeld.{read-scheme, read-instance}
 use borrow.Author.Needs.{needs}
 use Rattle.inspect.proofs.show_drawing.Statement.{statement}
 use Rattle.inspect.proofs.show_drawing.Tie as tie
@@ -27,6 +28,9 @@ count-requires-2 c κs = search needs
 print-number-requires-2 : tie.Need-print-number-requires-2
 print-number-requires-2 c κs = search needs
 
+show-saved-requires : tie.Need-show-saved-requires
+show-saved-requires c κs = (search (read-scheme, needs), search (read-instance, needs))
+
 slice-aggregate-write-all : tie.Need-slice-aggregate-write-all
 slice-aggregate-write-all c = search needs
 
@@ -40,7 +44,7 @@ print-refused-requires : tie.Need-print-refused-requires
 print-refused-requires c κs = search needs
 
 returns : tie.Need-returns
-returns c = c .before .before .before .before .before .before .before .before .before .before .before .read-drawing .ensures .scheme (search needs)
+returns c = search (read-scheme, needs)
 
 returns-2 : tie.Need-returns-2
 returns-2 c = search needs
@@ -57,6 +61,7 @@ show-drawing-spec =
     slice-aggregate-print-number-2
     count-requires-2
     print-number-requires-2
+    show-saved-requires
     slice-aggregate-write-all
     write-all-requires
     enum-known-answer
