@@ -4,3 +4,4 @@ pub mod Triples
 pub mod Fields
 pub mod Keys
 pub mod Fresh
+pub mod Stored

@@ -9,7 +9,7 @@ pub mod Sound
 -- # Matchings
 -- in-matchings, matchings-rise, matching-once, empty-pattern
 pub mod Matchings
--- listing-is-all, first-gives-smallest, after-gives-smallest
+-- listing-gives-all, listing-is-all, first-gives-smallest, after-gives-smallest
 pub mod Listings
 -- backtracking-is-all
 pub mod Backtracking

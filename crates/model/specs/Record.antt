@@ -134,11 +134,9 @@ run r (c ∷ cs) =
     record { state = rest .state; answers = now .answer ∷ rest .answers }
 
 -- "A listing is first, then after on each matching given, with the same rule text, until none."
-pub data ListingFrom (r : Record) (rule : List ℕ) : Outcome Report → List (List ℕ) → Type 0 where
-  ends : ListingFrom r rule (accepted (matching none)) []
-  goes : {m : List ℕ} {ms : List (List ℕ)}
-      → ListingFrom r rule (step r (After rule m) .answer) ms
-      → ListingFrom r rule (accepted (matching (some m))) (m ∷ ms)
+pub data ListingFrom (next : List ℕ → Outcome Report) : Outcome Report → List (List ℕ) → Type 0 where
+  ends : ListingFrom next (accepted (matching none)) []
+  goes : {m : List ℕ} {ms : List (List ℕ)} → ListingFrom next (next m) ms → ListingFrom next (accepted (matching (some m))) (m ∷ ms)
 
 abbrev pub Listing : Record → (rule : List ℕ) → List (List ℕ) → Type 0
-Listing r rule ms = ListingFrom r rule (step r (First rule) .answer) ms
+Listing r rule ms = ListingFrom (λ m. step r (After rule m) .answer) (step r (First rule) .answer) ms

@@ -2,7 +2,7 @@
 use Prim.Native.Nat.{ℕ, zero, suc, _+_, _<_, _≤_}
 use mathlib.Core.Path.{_≡_, refl, ap, _∙_, sym, subst}
 use mathlib.Core.Logic.{_↔_, _⊎_, inl, inr, ⊎-elim}
-use mathlib.Core.Bool.{Bool, true, false, cond, not, _&&_, _||_, false≢true, or-assoc}
+use mathlib.Core.Bool.{Bool, true, false, cond, not, _&&_, _||_, false≢true, and-assoc, or-assoc}
 use mathlib.Core.Option.{none, some}
 use native.Mathlib.Nat.{le-refl, eq-or-lt-of-le}
 use mathlib.Core.List.{List, [], _∷_, _++_, map, append-assoc, List·Memᴰ·head, List·Memᴰ·tail, List·Memᴰ·not-nil, List·Memᴰ·cases-cons}
@@ -148,6 +148,10 @@ module _ {A : Type 0} (p : A → Bool) where
   any-append [] ys = refl
   any-append (x ∷ xs) ys = rw (any-append xs ys) (sym (or-assoc (p x) (any p xs) (any p ys)))
 
+  pub all-append : (xs ys : List A) → all p (xs ++ ys) ≡ (all p xs && all p ys)
+  all-append [] ys = refl
+  all-append (x ∷ xs) ys = rw (all-append xs ys) (sym (and-assoc (p x) (all p xs) (all p ys)))
+
   keep-append-by : (x : A) (t : Bool) (l r s : List A) → l ≡ r ++ s → cond t (x ∷ l) l ≡ cond t (x ∷ r) r ++ s
   keep-append-by x true l r s e = ap (λ (k : List A). x ∷ k) e
   keep-append-by x false l r s e = e
@@ -207,6 +211,46 @@ module _ {A : Type 0} (p : A → Bool) where
           → (find p xs ≡ none → (z : A) → z ∈ xs → p z ≡ false) → p x ≡ false
       go true e g x i more = cc
       go false e g x i more = ⊎-elim (λ q. ap p q ∙ e) (more g x) (in-cons .0 i)
+
+-- what is found in the first of two lists, or in the second
+module _ {A : Type 0} (p : A → Bool) where
+  pub find-first : (xs ys : List A) {x : A} → find p xs ≡ some x → find p (xs ++ ys) ≡ some x
+  find-first [] ys e = let z : _≡_ {A = ℕ} 0 1 = cc in absurd (omega arith)
+  find-first (y ∷ xs) ys {x} e = go (p y) (find-first xs ys) e
+    where
+      go : (t : Bool) → (find p xs ≡ some x → find p (xs ++ ys) ≡ some x) → cond t (some y) (find p xs) ≡ some x
+          → cond t (some y) (find p (xs ++ ys)) ≡ some x
+      go true f q = q
+      go false f q = f q
+
+  pub find-later : (xs ys : List A) → find p xs ≡ none → find p (xs ++ ys) ≡ find p ys
+  find-later [] ys e = refl
+  find-later (y ∷ xs) ys e = go (p y) (find-later xs ys) e
+    where
+      go : (t : Bool) → (find p xs ≡ none → find p (xs ++ ys) ≡ find p ys) → cond t (some y) (find p xs) ≡ none
+          → cond t (some y) (find p (xs ++ ys)) ≡ find p ys
+      go true f q = let z : _≡_ {A = ℕ} 0 1 = cc in absurd (omega arith)
+      go false f q = f q
+
+-- those that pass one test, of those that pass another
+pub keep-keep : {A : Type 0} (p q : A → Bool) (xs : List A) → keep p (keep q xs) ≡ keep (λ x. q x && p x) xs
+keep-keep p q [] = refl
+keep-keep {A} p q (x ∷ xs) = go (q x) (keep-keep p q xs)
+  where
+    go : (t : Bool) → keep p (keep q xs) ≡ keep (λ x. q x && p x) xs
+        → keep p (cond t (x ∷ keep q xs) (keep q xs)) ≡ cond (t && p x) (x ∷ keep (λ x. q x && p x) xs) (keep (λ x. q x && p x) xs)
+    go true e = ap (λ (l : List A). cond (p x) (x ∷ l) l) e
+    go false e = e
+
+-- all that are kept pass: each passes that is kept
+pub all-kept : {A : Type 0} (p q : A → Bool) (xs : List A) → all p (keep q xs) ≡ all (λ x. cond (q x) (p x) true) xs
+all-kept p q [] = refl
+all-kept p q (x ∷ xs) = go (q x) (all-kept p q xs)
+  where
+    go : (t : Bool) → all p (keep q xs) ≡ all (λ y. cond (q y) (p y) true) xs
+        → all p (cond t (x ∷ keep q xs) (keep q xs)) ≡ (cond t (p x) true && all (λ y. cond (q y) (p y) true) xs)
+    go true e = ap (λ b. p x && b) e
+    go false e = e
 
 module _ {A B : Type 0} (f : A → B) where
   pub keep-map : (p : B → Bool) (xs : List A) → keep p (map f xs) ≡ map f (keep (λ x. p (f x)) xs)

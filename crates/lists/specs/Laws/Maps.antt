@@ -1,11 +1,12 @@
--- Lists made from the members of a list: made in two steps, made alike, and made back; and that the first of members that rise do.
+-- Lists made from the members of a list: made in two steps, made alike, and made back; tests and folds of them; and that the first of members that
+-- rise do.
 -- By induction on the members.
 use Prim.Native.Nat.{ℕ}
 use mathlib.Core.Path.{_≡_, refl, ap, ap₂, _∙_}
-use mathlib.Core.Bool.{Bool, true, false, cond}
+use mathlib.Core.Bool.{Bool, true, false, cond, _&&_}
 use mathlib.Core.Option.{Option, some, Option·map}
-use mathlib.Core.List.{List, [], _∷_, _++_, map, map-append, map-map, map-id, List·Memᴰ·head, List·Memᴰ·tail}
-use Rattle.lists.specs.Lists.{_∈_, keep, find, each}
+use mathlib.Core.List.{List, [], _∷_, _++_, map, map-append, map-map, map-id, foldl, List·Memᴰ·head, List·Memᴰ·tail}
+use Rattle.lists.specs.Lists.{_∈_, all, keep, find, each}
 use Rattle.lists.specs.Order.{rising}
 use Rattle.lists.specs.Laws.Order.{rising-append}
 
@@ -46,3 +47,29 @@ find-map {A} {B} f p q (x ∷ xs) h = rw (h x (List·Memᴰ·head refl), find-ma
 
 pub rising-front : {A : Type 0} (f : A → List ℕ) (xs ys : List A) → rising (map f (xs ++ ys)) ≡ true → rising (map f xs) ≡ true
 rising-front f xs ys h = rising-append (map f xs) (map f ys) .0 (rw map-append at h) .0
+
+-- # Tests and folds of lists that are made alike
+module _ {A : Type 0} where
+  pub all-same : (p q : A → Bool) (xs : List A) → ((x : A) → x ∈ xs → p x ≡ q x) → all p xs ≡ all q xs
+  all-same p q [] h = refl
+  all-same p q (x ∷ xs) h = ap₂ _&&_ (h x (List·Memᴰ·head refl)) (all-same p q xs (λ y i. h y (List·Memᴰ·tail i)))
+
+  pub keep-same : (p q : A → Bool) (xs : List A) → ((x : A) → x ∈ xs → p x ≡ q x) → keep p xs ≡ keep q xs
+  keep-same p q [] h = refl
+  keep-same p q (x ∷ xs) h = rw (h x (List·Memᴰ·head refl), keep-same p q xs (λ y i. h y (List·Memᴰ·tail i)))
+
+pub all-map : {A B : Type 0} (f : A → B) (p : B → Bool) (xs : List A) → all p (map f xs) ≡ all (λ x. p (f x)) xs
+all-map f p [] = refl
+all-map f p (x ∷ xs) = ap (λ t. p (f x) && t) (all-map f p xs)
+
+pub map-each : {A B C : Type 0} (h : B → C) (xs : List A) (f : A → List B) → map h (each xs f) ≡ each xs (λ x. map h (f x))
+map-each h [] f = refl
+map-each h (x ∷ xs) f = map-append h (f x) (each xs f) ∙ ap (λ l. map h (f x) ++ l) (map-each h xs f)
+
+pub fold-same : {A B : Type 0} (f g : A → B → A) (xs : List B) → ((x : B) → x ∈ xs → (a : A) → f a x ≡ g a x) → (a : A) → foldl f a xs ≡ foldl g a xs
+fold-same f g [] e a = refl
+fold-same f g (x ∷ xs) e a = ap (λ b. foldl f b xs) (e x (List·Memᴰ·head refl) a) ∙ fold-same f g xs (λ y i. e y (List·Memᴰ·tail i)) (g a x)
+
+pub fold-map : {A B C : Type 0} (h : B → C) (f : A → C → A) (xs : List B) (a : A) → foldl f a (map h xs) ≡ foldl (λ b x. f b (h x)) a xs
+fold-map h f [] a = refl
+fold-map h f (x ∷ xs) a = fold-map h f xs (f a (h x))

@@ -22,6 +22,10 @@ module _ {A : Type 0} where
   getD-inside (x ∷ xs) zero d e h = refl
   getD-inside (x ∷ xs) (suc i) d e h = getD-inside xs i d e (omega arith)
 
+pub count-length : (i n : ℕ) → length (countFrom i n) ≡ n
+count-length i zero = refl
+count-length i (suc n) = ap suc (count-length (suc i) n)
+
 pub count-at : (i n k d : ℕ) → k < n → getD (countFrom i n) k d ≡ i + k
 count-at i zero k d h = absurd (omega arith)
 count-at i (suc n) zero d h = omega arith
@@ -37,3 +41,9 @@ by-places zero [] e = refl
 by-places zero (x ∷ xs) e = absurd (omega arith)
 by-places (suc k) [] e = absurd (omega arith)
 by-places (suc k) (x ∷ xs) e = ap (λ (l : List ℕ). x ∷ l) (places-tail x xs 0 k ∙ by-places k xs (omega arith))
+
+-- what is at a place of a list that is made from the members
+pub map-at : (f : ℕ → ℕ) (xs : List ℕ) (i : ℕ) → i < length xs → map f xs ! i ≡ f (xs ! i)
+map-at f [] i h = absurd (omega arith)
+map-at f (x ∷ xs) zero h = refl
+map-at f (x ∷ xs) (suc i) h = map-at f xs i (omega arith)

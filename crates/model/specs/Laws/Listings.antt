@@ -21,6 +21,36 @@ use Rattle.model.specs.Record.{opened, First, After, Report, matching, a
 use Rattle.model.specs.Meaning.{Matches}
 use Rattle.model.specs.Laws.Matchings.{in-matchings, matchings-rise, matching-length}
 
+-- a listing in which each answer to a member of a rising list is the first member after it
+module _ (next : List ℕ → Outcome Report) (all : List (List ℕ)) (rise : rising all ≡ true)
+    (afters : (m : List ℕ) → m ∈ all → next m ≡ accepted (matching (smallestAfter m all))) where
+  -- the answer to a member is the one that follows it
+  follows : (front back : List (List ℕ)) (m : List ℕ) → front ++ m ∷ back ≡ all → next m ≡ accepted (matching (smallest back))
+  follows front back m e =
+      afters m (rw (← e) (in-append front (m ∷ back) .1 (inr (List·Memᴰ·head refl))))
+      ∙ rw (← e) (ap (λ (o : Option (List ℕ)). accepted (matching o)) (rising-next front back m (rw e rise)))
+
+  -- the lists that a listing gives after those in front
+  listing-from : (front back : List (List ℕ)) → front ++ back ≡ all
+      → {a : Outcome Report} {ms : List (List ℕ)} → ListingFrom next a ms → a ≡ accepted (matching (smallest back)) → ms ≡ back
+  listing-from front [] e ends h = refl
+  listing-from front (x ∷ back) e ends h = cc
+  listing-from front [] e (goes l) h = cc
+  listing-from front (x ∷ back) e (goes {m} {ms} l) h =
+      let k : m ≡ x = cc in
+      ap₂ _∷_ k (listing-from (front ++ x ∷ []) back (append-assoc front (x ∷ []) back ∙ e) l (rw k (follows front back x e)))
+
+  -- there is such a listing
+  listing-of : (front back : List (List ℕ)) → front ++ back ≡ all
+      → (a : Outcome Report) → a ≡ accepted (matching (smallest back)) → ListingFrom next a back
+  listing-of front [] e a h = rw h ends
+  listing-of front (x ∷ back) e a h =
+      rw h (goes (listing-of (front ++ x ∷ []) back (append-assoc front (x ∷ []) back ∙ e) (next x) (follows front back x e)))
+
+  -- from the first member on, it gives them all and nothing else
+  pub listing-gives-all : (a : Outcome Report) → a ≡ accepted (matching (smallest all)) → (ms : List (List ℕ)) → ListingFrom next a ms ↔ (ms ≡ all)
+  listing-gives-all a h ms = ((λ l. listing-from [] all refl l h), λ e. rw e (listing-of [] all refl a h))
+
 -- an accepted rule text in an open drawing
 module _ (s : Scheme) (d : Instance) (cs : List Instance) (rule : List ℕ) (r : Rule) (reads : readRule s rule ≡ accepted r) where
   first-answers : step (opened s d cs) (First rule) .answer ≡ accepted (matching (smallest (matchings (r .pattern) d)))
@@ -59,34 +89,8 @@ module _ (s : Scheme) (d : Instance) (cs : List Instance) (rule : List ℕ) (r :
           (smallestAfter l (matchings (r .pattern) d)) (find-smallest (λ m. m) (before l) (matchings (r .pattern) d) all-rise),
     )
 
-    -- `after` on a matching gives the one that follows it
-    goes-on : (front back : List (List ℕ)) (m : List ℕ) → front ++ m ∷ back ≡ matchings (r .pattern) d
-        → step (opened s d cs) (After rule m) .answer ≡ accepted (matching (smallest back))
-    goes-on front back m e =
-        let i : m ∈ (front ++ m ∷ back) = in-append front (m ∷ back) .1 (inr (List·Memᴰ·head refl)) in
-        after-answers m (matching-length (r .pattern) d m (rw e at i))
-        ∙ rw (← e) (ap (λ (o : Option (List ℕ)). accepted (matching o)) (rising-next front back m (rw e (matchings-rise (r .pattern) d rise))))
-
-    -- the matchings that a listing gives after those in front
-    listing-from : (front back : List (List ℕ)) → front ++ back ≡ matchings (r .pattern) d
-        → {a : Outcome Report} {ms : List (List ℕ)} → ListingFrom (opened s d cs) rule a ms → a ≡ accepted (matching (smallest back)) → ms ≡ back
-    listing-from front [] e ends h = refl
-    listing-from front (x ∷ back) e ends h = cc
-    listing-from front [] e (goes l) h = cc
-    listing-from front (x ∷ back) e (goes {m} {ms} l) h =
-        let k : m ≡ x = cc in
-        ap₂ _∷_ k (listing-from (front ++ x ∷ []) back (append-assoc front (x ∷ []) back ∙ e) l (rw k (goes-on front back x e)))
-
-    -- there is such a listing
-    listing-of : (front back : List (List ℕ)) → front ++ back ≡ matchings (r .pattern) d
-        → (a : Outcome Report) → a ≡ accepted (matching (smallest back)) → ListingFrom (opened s d cs) rule a back
-    listing-of front [] e a h = rw h ends
-    listing-of front (x ∷ back) e a h =
-        rw h (goes (listing-of (front ++ x ∷ []) back (append-assoc front (x ∷ []) back ∙ e) _ (goes-on front back x e)))
-
     -- "What it gives equals the list of all the pattern's matchings in the open drawing, in rising order."
     pub listing-is-all : (ms : List (List ℕ)) → Listing (opened s d cs) rule ms ↔ (ms ≡ matchings (r .pattern) d)
-    listing-is-all ms = (
-      (λ l. listing-from [] (matchings (r .pattern) d) refl l first-answers),
-      λ e. rw e (listing-of [] (matchings (r .pattern) d) refl _ first-answers),
-    )
+    listing-is-all =
+        listing-gives-all (λ m. step (opened s d cs) (After rule m) .answer) (matchings (r .pattern) d) (matchings-rise (r .pattern) d rise)
+        (λ m i. after-answers m (matching-length (r .pattern) d m i)) (step (opened s d cs) (First rule) .answer) first-answers

@@ -3,7 +3,7 @@ use native.Mathlib.Omega.{arith}
 use mathlib.Core.Path.{sym}
 use lib.Seq.{length-take-le}
 use borrow.Author.Needs.{needs}
-use Rattle.writing.specs.Laws.Stored.{permitted-inside, permitted-part, nodes-inside, nodes-part, edges-inside, edges-part}
+use Rattle.graph.specs.Laws.Stored.{permitted-inside, permitted-part, nodes-inside, nodes-part, edges-inside, edges-part}
 use Rattle.writing.specs.Laws.Saving.{listed-short, listed-saves}
 use Rattle.writing.proofs.save.save.Statement.{statement}
 use Rattle.writing.proofs.save.save.Tie as tie
