@@ -1,0 +1,59 @@
+-- `matches::marked` reads within the slice, and no more marks are set than there are. Assumes nothing.
+use Prim.Native.Nat.{_-_, _≤_}
+use lib.ListN.{length}
+use borrow.Author.Needs.{needs}
+use Rattle.matches.proofs.marked.Statement.{statement}
+use Rattle.matches.proofs.marked.Tie as tie
+
+abbrev Inv-loop : tie.InvT-loop
+Inv-loop marks count₀ i₀ count i = count ≤ i
+
+abbrev μ-loop : tie.MeasureT-loop
+μ-loop marks count₀ i₀ count i = length marks - i
+
+loop-holds : tie.Need-loop-holds Inv-loop μ-loop
+loop-holds c = search needs
+
+mul-mark : tie.Need-mul-mark Inv-loop μ-loop
+mul-mark c = search needs
+
+shared-slice-read-mark : tie.Need-shared-slice-read-mark Inv-loop μ-loop
+shared-slice-read-mark c = search needs
+
+add-i : tie.Need-add-i Inv-loop μ-loop
+add-i c = search needs
+
+add-count : tie.Need-add-count Inv-loop μ-loop
+add-count c = search needs
+
+loop-less : tie.Need-loop-less Inv-loop μ-loop
+loop-less c = search needs
+
+loop-again : tie.Need-loop-again Inv-loop μ-loop
+loop-again c = search needs
+
+loop-less-2 : tie.Need-loop-less-2 Inv-loop μ-loop
+loop-less-2 c = search needs
+
+loop-again-2 : tie.Need-loop-again-2 Inv-loop μ-loop
+loop-again-2 c = search needs
+
+returns : tie.Need-returns Inv-loop μ-loop
+returns c = search needs
+
+pub marked-spec : {M : Type 1} → statement M
+marked-spec =
+    tie.close
+    (tie.spec
+    Inv-loop
+    μ-loop
+    loop-holds
+    mul-mark
+    shared-slice-read-mark
+    add-i
+    add-count
+    loop-less
+    loop-again
+    loop-less-2
+    loop-again-2
+    returns)

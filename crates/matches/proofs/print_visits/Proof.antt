@@ -1,0 +1,102 @@
+-- `matches::print_visits` meets its contract: what is left of the pattern nodes falls. Assumes nothing.
+use Prim.Native.Nat.{_-_}
+use borrow.Author.Needs.{needs}
+use Rattle.matches.proofs.print_visits.Statement.{statement}
+use Rattle.matches.proofs.print_visits.Tie as tie
+
+abbrev Inv-loop : tie.InvT-loop
+Inv-loop instance pattern count q₀ t10 q = Unit {0}
+
+abbrev μ-loop : tie.MeasureT-loop
+μ-loop instance pattern count q₀ t10 q = pattern .order - q
+
+slice-aggregate-visit-all : tie.Need-slice-aggregate-visit-all Inv-loop μ-loop
+slice-aggregate-visit-all c = search needs
+
+slice-aggregate-visit-all-2 : tie.Need-slice-aggregate-visit-all-2 Inv-loop μ-loop
+slice-aggregate-visit-all-2 c = search needs
+
+visit-all-requires : tie.Need-visit-all-requires Inv-loop μ-loop
+visit-all-requires c κs = search needs
+
+slice-aggregate-print-number : tie.Need-slice-aggregate-print-number Inv-loop μ-loop
+slice-aggregate-print-number c = search needs
+
+print-number-requires : tie.Need-print-number-requires Inv-loop μ-loop
+print-number-requires c κs = search needs
+
+slice-aggregate-print-number-2 : tie.Need-slice-aggregate-print-number-2 Inv-loop μ-loop
+slice-aggregate-print-number-2 c = search needs
+
+slice-aggregate-marked : tie.Need-slice-aggregate-marked Inv-loop μ-loop
+slice-aggregate-marked c = search needs
+
+marked-requires : tie.Need-marked-requires Inv-loop μ-loop
+marked-requires c κs = search needs
+
+print-number-requires-2 : tie.Need-print-number-requires-2 Inv-loop μ-loop
+print-number-requires-2 c κs = search needs
+
+loop-holds : tie.Need-loop-holds Inv-loop μ-loop
+loop-holds c = search needs
+
+slice-aggregate-visit-all-3 : tie.Need-slice-aggregate-visit-all-3 Inv-loop μ-loop
+slice-aggregate-visit-all-3 c = search needs
+
+slice-aggregate-visit-all-4 : tie.Need-slice-aggregate-visit-all-4 Inv-loop μ-loop
+slice-aggregate-visit-all-4 c = search needs
+
+visit-all-requires-2 : tie.Need-visit-all-requires-2 Inv-loop μ-loop
+visit-all-requires-2 c κs = search needs
+
+slice-aggregate-print-number-3 : tie.Need-slice-aggregate-print-number-3 Inv-loop μ-loop
+slice-aggregate-print-number-3 c = search needs
+
+slice-aggregate-marked-2 : tie.Need-slice-aggregate-marked-2 Inv-loop μ-loop
+slice-aggregate-marked-2 c = search needs
+
+marked-requires-2 : tie.Need-marked-requires-2 Inv-loop μ-loop
+marked-requires-2 c κs = search needs
+
+print-number-requires-3 : tie.Need-print-number-requires-3 Inv-loop μ-loop
+print-number-requires-3 c κs = search needs
+
+add-q : tie.Need-add-q Inv-loop μ-loop
+add-q c = search needs
+
+loop-less : tie.Need-loop-less Inv-loop μ-loop
+loop-less c = search needs
+
+loop-again : tie.Need-loop-again Inv-loop μ-loop
+loop-again c = search needs
+
+returns : tie.Need-returns Inv-loop μ-loop
+returns c = search needs
+
+pub print-visits-spec : {M : Type 1} → statement M
+print-visits-spec =
+    tie.close
+    (tie.spec
+    Inv-loop
+    μ-loop
+    slice-aggregate-visit-all
+    slice-aggregate-visit-all-2
+    visit-all-requires
+    slice-aggregate-print-number
+    print-number-requires
+    slice-aggregate-print-number-2
+    slice-aggregate-marked
+    marked-requires
+    print-number-requires-2
+    loop-holds
+    slice-aggregate-visit-all-3
+    slice-aggregate-visit-all-4
+    visit-all-requires-2
+    slice-aggregate-print-number-3
+    slice-aggregate-marked-2
+    marked-requires-2
+    print-number-requires-3
+    add-q
+    loop-less
+    loop-again
+    returns)

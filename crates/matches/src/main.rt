@@ -1,0 +1,225 @@
+// Reads the drawing file that its first argument names, and the rule texts that the others name, and prints of each rule's pattern all matchings,
+// listed by first and after; how many a walk visits and how many nodes it marks; and what comes after lists that are no matchings.
+ghost use Prim.Native.Nat.{_≤_};
+ghost use lib.ListN.{length};
+ghost use Rattle.graph.specs.Packed.{unpackScheme, StoredScheme, StoredInstance};
+ghost use Rattle.matcher.specs.Matchers.{Stored};
+use graph::instance::PackedInstance;
+use graph::pattern::PackedPattern;
+use graph::rule::PackedAction;
+use graph::scheme::PackedScheme;
+use matcher::listing::Matched;
+use matcher::listing::after;
+use matcher::listing::first;
+use matcher::listing::visit_all;
+use model::MatchingAnswer;
+use model::Refusal;
+use reading::drawing::read_drawing;
+use reading::rules::read_rule;
+use reading::verdicts::Answer;
+
+// The most bytes that a name has.
+const NAME: usize = 64;
+
+// How often after is asked in a listing, so that at most 101 matchings are printed.
+const LISTED: usize = 100;
+
+// The first so many bytes of a text decide how it is read.
+const ENOUGH: usize = 20106;
+
+fn print_number(before: &[u8], n: u64) {
+    io::write_all(1, before);
+    io::print_decimal(1, n);
+}
+
+fn print_refused(r: Refusal) {
+    print_number(b" refused=", r.number());
+    print_number(b",", r.returned());
+}
+
+fn print_numbers(numbers: [u64; PackedPattern::NODES], length: u64) {
+    io::write_all(1, b" (");
+    let mut i = 0;
+    while i < PackedPattern::NODES {
+        if (i as u64) < length {
+            if 0 < i {
+                io::write_all(1, b",");
+            }
+            io::print_decimal(1, numbers[i]);
+        }
+        i += 1;
+    }
+    io::write_all(1, b")");
+}
+
+// Prints what is given; whether it is a matching.
+fn print_given(given: Matched) -> bool {
+    let numbers = given.numbers;
+    let answer = given.answer;
+    match answer {
+        MatchingAnswer::Found { length } => {
+            print_numbers(numbers, length);
+            true
+        }
+        MatchingAnswer::Nothing => {
+            io::write_all(1, b" none");
+            false
+        }
+        MatchingAnswer::Refused(refusal) => {
+            print_refused(refusal);
+            false
+        }
+    }
+}
+
+fn print_listing(instance: PackedInstance, pattern: PackedPattern)
+    requires { ⌜ Stored instance pattern ⌝ }
+{
+    let levels = pattern.order;
+    let given = first(instance, pattern);
+    let mut numbers = given.numbers;
+    let mut more = print_given(given);
+    let mut left = LISTED;
+    while 0 < left {
+        left -= 1;
+        if more {
+            let next = after(instance, pattern, &numbers[..levels]);
+            numbers = next.numbers;
+            more = print_given(next);
+        }
+    }
+}
+
+// How many of the marks are set.
+fn marked(marks: &[u64]) -> u64 {
+    let mut count = 0;
+    let mut i = 0;
+    while i < marks.len() {
+        let mark = marks[i];
+        i += 1;
+        if mark == 1 {
+            count += 1;
+        }
+    }
+    count
+}
+
+// A walk that changes nothing, and for each pattern node one that marks its images.
+fn print_visits(instance: PackedInstance, pattern: PackedPattern)
+    requires { ⌜ Stored instance pattern ⌝ }
+{
+    let mut marks = [0; PackedInstance::NODES];
+    let count = visit_all(
+        instance,
+        pattern,
+        &[PackedAction::PATTERN_ONLY, 0],
+        &mut marks,
+    );
+    print_number(b" visits=", count);
+    print_number(b" marks=", marked(&marks));
+    let mut q = 0;
+    while q < pattern.order as u64 {
+        let mut images = [0; PackedInstance::NODES];
+        visit_all(
+            instance,
+            pattern,
+            &[PackedAction::NODE_DELETION, q],
+            &mut images,
+        );
+        print_number(b",", marked(&images));
+        q += 1;
+    }
+}
+
+fn print_after(instance: PackedInstance, pattern: PackedPattern, number: u64)
+    requires { ⌜ Stored instance pattern ⌝ }
+{
+    let levels = pattern.order;
+    let list = [number; PackedPattern::NODES + 1];
+    print_number(b" after=", number);
+    print_given(after(instance, pattern, &list[..levels]));
+}
+
+fn show_pattern(instance: PackedInstance, pattern: PackedPattern)
+    requires { ⌜ Stored instance pattern ⌝ }
+{
+    print_listing(instance, pattern);
+    print_visits(instance, pattern);
+    print_after(instance, pattern, 0);
+    print_after(instance, pattern, 4);
+    print_after(instance, pattern, 5);
+    print_after(instance, pattern, 18446744073709551615);
+    print_given(after(instance, pattern, &[0; PackedPattern::NODES + 1]));
+    io::write_all(1, b"\n");
+}
+
+// Reads what is in an open file, and closes it.
+fn read_opened(file: i32, text: &mut [u8]) -> usize
+    ensures { λ r. ⌜ r ≤ length (now (text .entry)) ⌝ }
+{
+    let length = io::read_full(file, text);
+    libc::close(file);
+    length
+}
+
+fn show_rule(scheme: PackedScheme, instance: PackedInstance, name: &[u8])
+    requires { ⌜ StoredScheme scheme ⌝ }
+    requires { ⌜ StoredInstance (unpackScheme scheme) instance ⌝ }
+{
+    let file = os::open_read(name);
+    if file < 0 {
+        os::fail(name);
+        return;
+    }
+    let mut text = [0u8; ENOUGH];
+    let length = read_opened(file, &mut text);
+    io::write_all(1, name);
+    let read = read_rule(&text[..length], scheme);
+    let rule = read.rule;
+    let pattern = rule.pattern;
+    let answer = read.answer;
+    match answer {
+        Answer::Accepted => show_pattern(instance, pattern),
+        Answer::Refused(refusal) => {
+            print_refused(refusal);
+            io::write_all(1, b"\n");
+        }
+    }
+}
+
+fn show_rules(scheme: PackedScheme, instance: PackedInstance)
+    requires { ⌜ StoredScheme scheme ⌝ }
+    requires { ⌜ StoredInstance (unpackScheme scheme) instance ⌝ }
+{
+    let arguments = os::arg_count();
+    let mut i = 2;
+    while i < arguments {
+        let mut name = [0u8; NAME];
+        let length = os::arg(i, &mut name);
+        show_rule(scheme, instance, &name[..length]);
+        i += 1;
+    }
+}
+
+fn main() {
+    let mut name = [0u8; NAME];
+    let length = os::arg(1, &mut name);
+    let file = os::open_read(&name[..length]);
+    if file < 0 {
+        os::fail(&name[..length]);
+        return;
+    }
+    let mut text = [0u8; ENOUGH];
+    let size = read_opened(file, &mut text);
+    let read = read_drawing(&text[..size]);
+    let scheme = read.scheme;
+    let instance = read.instance;
+    let answer = read.answer;
+    match answer {
+        Answer::Accepted => show_rules(scheme, instance),
+        Answer::Refused(refusal) => {
+            print_refused(refusal);
+            io::write_all(1, b"\n");
+        }
+    }
+}
