@@ -37,6 +37,9 @@ declaredRooms = 2 ^ 6 ∷ 2 ∷ []
 abbrev pub unpackTriple : ℕ → Triple
 unpackTriple k = record { source = k / 2 ^ 22; name = k / 2 ^ 16 % 2 ^ 6; target = k % 2 ^ 16 }
 
+abbrev pub packTriple : Triple → ℕ
+packTriple t = t .source * 2 ^ 22 + t .name * 2 ^ 16 + t .target
+
 -- rising triples
 abbrev pub triplesRise : List ℕ → Bool
 triplesRise ks = rising (map row (map unpackTriple ks))
@@ -147,6 +150,11 @@ pub record StoredScheme (s : PackedScheme) : Type 0 where
   pub names : Snug (s .names)
   pub few : s .permissions ≤ Limits.permitted
   pub listed : schemeListed (unpackScheme s) ≡ true
+
+-- no more nodes and edges than there is room for
+pub record Fits (d : PackedInstance) : Type 0 where
+  pub fewNodes : d .order ≤ Limits.nodes
+  pub fewEdges : d .size ≤ Limits.edges
 
 pub record StoredInstance (s : Scheme) (d : PackedInstance) : Type 0 where
   pub fewNodes : d .order ≤ Limits.nodes

@@ -1,5 +1,5 @@
 -- Tests on lists, and lists made from lists.
-use Prim.Native.Nat.{ℕ, zero, suc}
+use Prim.Native.Nat.{ℕ, zero, suc, _<_}
 use mathlib.Core.Bool.{Bool, true, false, cond, _&&_, _||_}
 use mathlib.Core.Option.{Option, none, some}
 use mathlib.Core.List.{List, [], _∷_, _++_, map, List·Memᴰ}
@@ -59,3 +59,7 @@ member xs n = any (eqb n) xs
 
 abbrev pub sameSet : List ℕ → List ℕ → Bool
 sameSet xs ys = all (member ys) xs && all (member xs) ys
+
+-- each member is below a number
+abbrev pub Below : ℕ → List ℕ → Type 0
+Below b ks = (k : ℕ) → k ∈ ks → k < b

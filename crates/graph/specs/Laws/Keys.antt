@@ -17,8 +17,9 @@ use borrow.Author.Tests.{ltb-true, lt-ltb, le-ltb, eq-eqb, ne-eqb, ltb-false, eq
 use Rattle.lists.specs.Lists.{_∈_, any, keep, find, member, _!_}
 use Rattle.lists.specs.Order.{before, rising}
 use Rattle.lists.specs.Laws.Lists.{in-cons, same-truth, in-numbers, keep-none, keep-all, keep-length, any-member, in-map, finds-none, fails}
+use Rattle.lists.specs.Laws.Maps.{map-back}
 use Rattle.lists.specs.Laws.Places.{at-place}
-use Rattle.lists.specs.Laws.Order.{rising-map, rising-map-by, rising-map-keep}
+use Rattle.lists.specs.Laws.Order.{rising-map, rising-map-by, rising-map-keep, rising-determined}
 use Rattle.model.specs.Graph.{Triple, Node, row}
 use Rattle.model.specs.Operations.{joinEdge}
 use Rattle.model.specs.Laws.EdgeAddition.{joinEdge-rises}
@@ -27,7 +28,7 @@ use Rattle.graph.specs.Packed.{unpackTriple, unpackNode}
 use Rattle.graph.specs.Laws.Triples.{before-number, triple-same, triple-order}
 
 -- # Rising keys
-rise-cons : (x : ℕ) (ks : List ℕ) → (keysRise (x ∷ ks) ≡ true) ↔ (((k : ℕ) → k ∈ ks → x < k) × (keysRise ks ≡ true))
+pub rise-cons : (x : ℕ) (ks : List ℕ) → (keysRise (x ∷ ks) ≡ true) ↔ (((k : ℕ) → k ∈ ks → x < k) × (keysRise ks ≡ true))
 unfolding keysRise
 rise-cons x ks = (
   (λ h. let r = rising-map (λ k. k ∷ []) x ks .0 h in ((λ k i. ltb-true x k (rw before-number at (r .0 k i))), r .1)),
@@ -53,6 +54,19 @@ rising-numbers ks h =
     (λ a b l. let m : a / 2 ^ 38 < b / 2 ^ 38 = ltb-true _ _ (rw before-number at l) in rw before-number (lt-ltb a b (omega arith)))
     ks
     (rw map-map at h)
+
+-- two rising lists with the same members are one list
+pub keys-determined : (xs ys : List ℕ) → keysRise xs ≡ true → keysRise ys ≡ true
+    → ((k : ℕ) → k ∈ xs → k ∈ ys) → ((k : ℕ) → k ∈ ys → k ∈ xs) → xs ≡ ys
+unfolding keysRise
+keys-determined xs ys r q f g =
+    let one : ℕ → List ℕ = λ k. k ∷ [] in
+    let into : (us vs : List ℕ) → ((k : ℕ) → k ∈ us → k ∈ vs) → (z : List ℕ) → z ∈ map one us → z ∈ map one vs =
+    λ us vs h z i. let m = in-map one us .0 i in in-map one vs .1 (m .0, h (m .0) (m .1), m .2) in
+    let first : List ℕ → ℕ = λ l. l ! 0 in
+    sym (map-back first one xs (λ k i. refl))
+    ∙ ap (map first) (rising-determined (map one xs) (map one ys) r q (into xs ys f) (into ys xs g))
+    ∙ map-back first one ys (λ k i. refl)
 
 -- # Joining a key
 pub join-triple : (k : ℕ) (ks : List ℕ) → map unpackTriple (joinKey k ks) ≡ joinEdge (unpackTriple k) (map unpackTriple ks)

@@ -13,7 +13,7 @@ use Rattle.lists.specs.Order.{same, before}
 use Rattle.lists.specs.Laws.Lists.{same-truth, eqb-symmetric}
 use Rattle.lists.specs.Laws.Order.{same-list, before-cons, before-total}
 use Rattle.model.specs.Graph.{row, has}
-use Rattle.graph.specs.Packed.{unpackTriple, triple}
+use Rattle.graph.specs.Packed.{packTriple, unpackTriple, triple}
 
 pub before-number : (a b : ℕ) → before (a ∷ []) (b ∷ []) ≡ ltb a b
 before-number a b = same-truth (before (a ∷ []) (b ∷ [])) (ltb a b) (
@@ -23,16 +23,16 @@ before-number a b = same-truth (before (a ∷ []) (b ∷ [])) (ltb a b) (
 
 -- # Numbers in a key
 abbrev pack : ℕ → ℕ → ℕ → ℕ
-pack s n t = s * 2 ^ 22 + n * 2 ^ 16 + t
+pack s n t = packTriple (triple s n t)
 
-unpack-packed : (s n t : ℕ) → n < 2 ^ 6 → t < 2 ^ 16 → unpackTriple (pack s n t) ≡ triple s n t
+pub unpack-packed : (s n t : ℕ) → n < 2 ^ 6 → t < 2 ^ 16 → unpackTriple (pack s n t) ≡ triple s n t
 unpack-packed s n t h k =
     let source : pack s n t / 2 ^ 22 ≡ s = omega arith in
     let name : pack s n t / 2 ^ 16 % 2 ^ 6 ≡ n = omega arith in
     let target : pack s n t % 2 ^ 16 ≡ t = omega arith in
     ap (λ (i : ℕ). triple i (pack s n t / 2 ^ 16 % 2 ^ 6) (pack s n t % 2 ^ 16)) source ∙ ap₂ (triple s) name target
 
-packed-unpack : (k : ℕ) → k ≡ pack (k / 2 ^ 22) (k / 2 ^ 16 % 2 ^ 6) (k % 2 ^ 16)
+pub packed-unpack : (k : ℕ) → k ≡ pack (k / 2 ^ 22) (k / 2 ^ 16 % 2 ^ 6) (k % 2 ^ 16)
 packed-unpack k = omega arith
 
 -- # Order

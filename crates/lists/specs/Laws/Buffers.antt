@@ -69,10 +69,12 @@ module _ {whole before : List ℕ} where
       pub unwritten-part : {taken : ℕ} {after : List ℕ} → Writes part (take (length now - at) (drop at now)) taken after
           → Unwritten whole before left (at + taken) (take at now ++ (after ++ drop (length now - at) (drop at now)))
       unwritten-part {taken} {after} w =
-          let nothing : drop (length now - at) (drop at now) ≡ [] = drop-of-length-le (drop at now) {i = length now - at} (omega (arith, length-drop at now)) in
+          let nothing : drop (length now - at) (drop at now) ≡ [] =
+          drop-of-length-le (drop at now) {i = length now - at} (omega (arith, length-drop at now)) in
           written-on part left u (record {
             ends = omega (arith, w .count);
-            buffer = ap (λ l. take at now ++ l) (ap (λ l. after ++ l) nothing ∙ append-nil after ∙ w .buffer ∙ ap (atFront part) (part-to-end now at));
+            buffer =
+                ap (λ l. take at now ++ l) (ap (λ l. after ++ l) nothing ∙ append-nil after ∙ w .buffer ∙ ap (atFront part) (part-to-end now at));
           })
 
     module _ {byte : ℕ} {left : List ℕ} (u : Unwritten whole before (byte ∷ left) at now) where
@@ -91,7 +93,8 @@ module _ {whole before : List ℕ} where
   pub unwritten-front : (part left : List ℕ) → whole ≡ part ++ left → length whole ≤ length before
       → {taken : ℕ} {after : List ℕ} → Writes part before taken after → Unwritten whole before left taken after
   unwritten-front part left e h {taken} {after} w =
-      written-on part left (subst (λ t. Unwritten whole before t 0 before) e (unwritten-all h)) (record { ends = omega (arith, w .count); buffer = w .buffer })
+      written-on part left (subst (λ t. Unwritten whole before t 0 before) e (unwritten-all h))
+      (record { ends = omega (arith, w .count); buffer = w .buffer })
 
   -- nothing is left
   pub unwritten-none : {at : ℕ} {now : List ℕ} → Unwritten whole before [] at now → Writes whole before at now

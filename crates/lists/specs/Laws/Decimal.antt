@@ -144,7 +144,8 @@ leads-one n h l =
 decimal-leads : (n : ℕ) → 1 ≤ n → Leads (decimal n)
 decimal-leads =
     by-tenths (λ n. 1 ≤ n → Leads (decimal n)) leads-one
-    (λ n h ih l. subst Leads (sym (decimal-more n h)) (leads-snoc (decimal (n / 10)) (48 + n % 10) (digit-of (n % 10) (omega arith)) (ih (omega arith))))
+    (λ n h ih l.
+    subst Leads (sym (decimal-more n h)) (leads-snoc (decimal (n / 10)) (48 + n % 10) (digit-of (n % 10) (omega arith)) (ih (omega arith))))
 
 leads-numeral : (b : ℕ) (bs : List ℕ) → eqb b 48 ≡ false → all isDigit (b ∷ bs) ≡ true → isNumeral (b ∷ bs) ≡ true
 leads-numeral b [] h d = both (isDigit b) true .0 d .0

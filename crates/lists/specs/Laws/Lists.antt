@@ -46,21 +46,29 @@ module _ {A : Type 0} (p : A → Bool) where
   pub any-member : (xs : List A) → (any p xs ≡ true) ↔ ((x : A) × (x ∈ xs) × (p x ≡ true))
   any-member [] = ((λ h. absurd (false≢true h)), λ h. absurd (List·Memᴰ·not-nil (h .1)))
   any-member (y ∷ xs) = (
-    (λ h. ⊎-elim (λ e. (y, List·Memᴰ·head refl, e)) (λ e. let r = any-member xs .0 e in (r .0, List·Memᴰ·tail (r .1), r .2)) (one-of (p y) (any p xs) .0 h)),
-    λ h. one-of (p y) (any p xs) .1 (⊎-elim (λ e. inl (ap p (sym e) ∙ h .2)) (λ i. inr (any-member xs .1 (h .0, i, h .2))) (List·Memᴰ·cases-cons (h .1))),
+    (λ h.
+        ⊎-elim (λ e. (y, List·Memᴰ·head refl, e)) (λ e. let r = any-member xs .0 e in (r .0, List·Memᴰ·tail (r .1), r .2))
+        (one-of (p y) (any p xs) .0 h)),
+    λ h.
+        one-of (p y) (any p xs) .1
+        (⊎-elim (λ e. inl (ap p (sym e) ∙ h .2)) (λ i. inr (any-member xs .1 (h .0, i, h .2))) (List·Memᴰ·cases-cons (h .1))),
   )
 
   pub all-members : (xs : List A) → (all p xs ≡ true) ↔ ((x : A) → x ∈ xs → p x ≡ true)
   all-members [] = ((λ h x i. absurd (List·Memᴰ·not-nil i)), λ h. refl)
   all-members (y ∷ xs) = (
-    (λ h x i. ⊎-elim (λ e. ap p e ∙ both (p y) (all p xs) .0 h .0) (λ j. all-members xs .0 (both (p y) (all p xs) .0 h .1) x j) (List·Memᴰ·cases-cons i)),
+    (λ h x i.
+        ⊎-elim (λ e. ap p e ∙ both (p y) (all p xs) .0 h .0) (λ j. all-members xs .0 (both (p y) (all p xs) .0 h .1) x j)
+        (List·Memᴰ·cases-cons i)),
     λ h. both (p y) (all p xs) .1 (h y (List·Memᴰ·head refl), all-members xs .1 (λ x i. h x (List·Memᴰ·tail i))),
   )
 
   pub no-member : (xs : List A) → (any p xs ≡ false) ↔ ((x : A) → x ∈ xs → p x ≡ false)
   no-member [] = ((λ h x i. absurd (List·Memᴰ·not-nil i)), λ h. refl)
   no-member (y ∷ xs) = (
-    (λ h x i. ⊎-elim (λ e. ap p e ∙ neither (p y) (any p xs) .0 h .0) (λ j. no-member xs .0 (neither (p y) (any p xs) .0 h .1) x j) (List·Memᴰ·cases-cons i)),
+    (λ h x i.
+        ⊎-elim (λ e. ap p e ∙ neither (p y) (any p xs) .0 h .0) (λ j. no-member xs .0 (neither (p y) (any p xs) .0 h .1) x j)
+        (List·Memᴰ·cases-cons i)),
     λ h. neither (p y) (any p xs) .1 (h y (List·Memᴰ·head refl), no-member xs .1 (λ x i. h x (List·Memᴰ·tail i))),
   )
 
@@ -104,7 +112,9 @@ module _ {A B : Type 0} where
   pub in-each : {y : B} (xs : List A) (f : A → List B) → (y ∈ each xs f) ↔ ((x : A) × (x ∈ xs) × (y ∈ f x))
   in-each [] f = ((λ h. absurd (List·Memᴰ·not-nil h)), λ h. absurd (List·Memᴰ·not-nil (h .1)))
   in-each {y} (a ∷ xs) f = (
-    (λ h. ⊎-elim (λ i. (a, List·Memᴰ·head refl, i)) (λ i. let r = in-each xs f .0 i in (r .0, List·Memᴰ·tail (r .1), r .2)) (in-append (f a) (each xs f) .0 h)),
+    (λ h.
+        ⊎-elim (λ i. (a, List·Memᴰ·head refl, i)) (λ i. let r = in-each xs f .0 i in (r .0, List·Memᴰ·tail (r .1), r .2))
+        (in-append (f a) (each xs f) .0 h)),
     λ h.
         in-append (f a) (each xs f) .1
         (⊎-elim (λ e. inl (subst (λ (z : A). y ∈ f z) e (h .2))) (λ i. inr (in-each xs f .1 (h .0, i, h .2))) (in-cons .0 (h .1))),

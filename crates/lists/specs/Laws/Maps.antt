@@ -1,6 +1,5 @@
 -- Lists made from the members of a list: made in two steps, made alike, and made back; tests and folds of them; and that the first of members that
--- rise do.
--- By induction on the members.
+-- rise do. By induction on the members.
 use Prim.Native.Nat.{ℕ}
 use mathlib.Core.Path.{_≡_, refl, ap, ap₂, _∙_}
 use mathlib.Core.Bool.{Bool, true, false, cond, _&&_}
@@ -65,10 +64,6 @@ all-map f p (x ∷ xs) = ap (λ t. p (f x) && t) (all-map f p xs)
 pub map-each : {A B C : Type 0} (h : B → C) (xs : List A) (f : A → List B) → map h (each xs f) ≡ each xs (λ x. map h (f x))
 map-each h [] f = refl
 map-each h (x ∷ xs) f = map-append h (f x) (each xs f) ∙ ap (λ l. map h (f x) ++ l) (map-each h xs f)
-
-pub fold-same : {A B : Type 0} (f g : A → B → A) (xs : List B) → ((x : B) → x ∈ xs → (a : A) → f a x ≡ g a x) → (a : A) → foldl f a xs ≡ foldl g a xs
-fold-same f g [] e a = refl
-fold-same f g (x ∷ xs) e a = ap (λ b. foldl f b xs) (e x (List·Memᴰ·head refl) a) ∙ fold-same f g xs (λ y i. e y (List·Memᴰ·tail i)) (g a x)
 
 pub fold-map : {A B C : Type 0} (h : B → C) (f : A → C → A) (xs : List B) (a : A) → foldl f a (map h xs) ≡ foldl (λ b x. f b (h x)) a xs
 fold-map h f [] a = refl

@@ -19,7 +19,8 @@ use Rattle.lists.specs.Laws.Order.{before-transitive, rising-append}
 pub count-last : (i k : ℕ) → countFrom i (suc k) ≡ countFrom i k ++ ((i + k) ∷ [])
 count-last i zero = let e : i ≡ i + 0 = omega arith in ap (λ (n : ℕ). n ∷ []) e
 count-last i (suc k) =
-    let e : suc i + k ≡ i + suc k = omega arith in ap (λ (l : List ℕ). i ∷ l) (count-last (suc i) k ∙ ap (λ (n : ℕ). countFrom (suc i) k ++ (n ∷ [])) e)
+    let e : suc i + k ≡ i + suc k = omega arith in
+    ap (λ (l : List ℕ). i ∷ l) (count-last (suc i) k ∙ ap (λ (n : ℕ). countFrom (suc i) k ++ (n ∷ [])) e)
 
 pub stored-last : (keys : List ℕ) (count key : ℕ) → count < length keys → take (count + 1) (set keys count key) ≡ take count keys ++ (key ∷ [])
 stored-last keys count key h = rw add-one (take-suc-set keys count key h)
@@ -60,7 +61,8 @@ rising-after xs x y h b =
 
 -- # No two of which a relation holds
 -- where it holds of none with itself, and either way round
-module _ {A : Type 0} (holds : A → A → Bool) (irreflexive : (x : A) → holds x x ≡ false) (symmetric : (x y : A) → holds x y ≡ true → holds y x ≡ true) where
+module _ {A : Type 0} (holds : A → A → Bool) (irreflexive : (x : A) → holds x x ≡ false)
+    (symmetric : (x y : A) → holds x y ≡ true → holds y x ≡ true) where
   abbrev NoTwo : List A → Type 0
   NoTwo xs = (x y : A) → x ∈ xs → y ∈ xs → holds x y ≡ false
 

@@ -10,7 +10,8 @@ use lib.Dec.{eqb, ltb}
 use borrow.Author.Tests.{lt-ltb, eq-eqb, ltb-true, ltb-false, eqb-true, eqb-false}
 use Rattle.lists.specs.Lists.{_∈_, any, keep, find, each, sequences, countFrom}
 use Rattle.lists.specs.Order.{same, before, rising, Smallest}
-use Rattle.lists.specs.Laws.Lists.{both, one-of, Truth, any-member, in-cons, in-append, in-keep, in-map, in-each, fails, finds, finds-none, in-count}
+use Rattle.lists.specs.Laws.Lists.{both, one-of, Truth, any-member, in-cons, in-append, in-keep, in-map, in-each, in-count}
+use Rattle.lists.specs.Laws.Lists.{fails, finds, finds-none}
 
 -- # The same list
 pub same-list : (xs ys : List ℕ) → (same xs ys ≡ true) ↔ (xs ≡ ys)
@@ -57,7 +58,9 @@ before-transitive (x ∷ xs) (y ∷ ys) (z ∷ zs) h k =
     before-cons x z xs zs .1
     (⊎-elim
     (λ l. ⊎-elim (λ m. inl (omega arith)) (λ r. inl (let e = r .0 in omega arith)) (before-cons y z ys zs .0 k))
-    (λ r. let e = r .0 in ⊎-elim (λ m. inl (omega arith)) (λ q. inr (r .0 ∙ q .0, before-transitive xs ys zs (r .1) (q .1))) (before-cons y z ys zs .0 k))
+    (λ r.
+    let e = r .0 in
+    ⊎-elim (λ m. inl (omega arith)) (λ q. inr (r .0 ∙ q .0, before-transitive xs ys zs (r .1) (q .1))) (before-cons y z ys zs .0 k))
     (before-cons x y xs ys .0 h))
 
 before-asymmetric : (xs ys : List ℕ) → before xs ys ≡ true → before ys xs ≡ false
@@ -201,7 +204,8 @@ find-first-after x [] h = refl
 find-first-after x (y ∷ xs) h = rw (h y (List·Memᴰ·head refl))
 
 -- in a rising list, the first member after x is the one that follows x
-pub rising-next : (front back : List (List ℕ)) (x : List ℕ) → rising (front ++ x ∷ back) ≡ true → find (before x) (front ++ x ∷ back) ≡ find (λ y. true) back
+pub rising-next : (front back : List (List ℕ)) (x : List ℕ) → rising (front ++ x ∷ back) ≡ true
+    → find (before x) (front ++ x ∷ back) ≡ find (λ y. true) back
 rising-next [] back x h = rw (fails (before x x) .1 (before-irreflexive x)) (find-first-after x back (rising-cons x back .0 h .0))
 rising-next (y ∷ front) back x h =
     let r = rising-cons y (front ++ x ∷ back) .0 h in
@@ -244,5 +248,6 @@ module _ {A : Type 0} (f : A → List ℕ) where
                 (in-append (r .front) (x ∷ r .back) .0 (rw (r .split) at (q .0))),
           )
 
-  pub finds-smallest : (p : A → Bool) (xs : List A) (o : Option A) → rising (map f xs) ≡ true → (find p xs ≡ o) ↔ Smallest f (λ x. (x ∈ xs) × (p x ≡ true)) o
+  pub finds-smallest : (p : A → Bool) (xs : List A) (o : Option A) → rising (map f xs) ≡ true
+      → (find p xs ≡ o) ↔ Smallest f (λ x. (x ∈ xs) × (p x ≡ true)) o
   finds-smallest p xs o h = ((λ e. rw e at (find-smallest p xs h)), λ s. smallest-one _ (find p xs) o (find-smallest p xs h) s)
