@@ -1,6 +1,7 @@
 -- Laws of the search, and of what the calls give, by subject.
 pub mod Levels
 pub mod Tests
+pub mod Visits
 pub mod Walk
 pub mod Seek
 pub mod Planned

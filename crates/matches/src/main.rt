@@ -6,7 +6,6 @@ ghost use Rattle.graph.specs.Packed.{unpackScheme, StoredScheme, StoredInstance
 ghost use Rattle.matcher.specs.Matchers.{Stored};
 use graph::instance::PackedInstance;
 use graph::pattern::PackedPattern;
-use graph::rule::PackedAction;
 use graph::scheme::PackedScheme;
 use matcher::listing::Matched;
 use matcher::listing::after;
@@ -14,6 +13,9 @@ use matcher::listing::first;
 use matcher::listing::visit_all;
 use model::MatchingAnswer;
 use model::Refusal;
+use notes::TOGETHER;
+use notes::count;
+use notes::no_notes;
 use reading::drawing::read_drawing;
 use reading::rules::read_rule;
 use reading::verdicts::Answer;
@@ -90,43 +92,19 @@ fn print_listing(instance: PackedInstance, pattern: PackedPattern)
     }
 }
 
-// How many of the marks are set.
-fn marked(marks: &[u64]) -> u64 {
-    let mut count = 0;
-    let mut i = 0;
-    while i < marks.len() {
-        let mark = marks[i];
-        i += 1;
-        if mark == 1 {
-            count += 1;
-        }
-    }
-    count
-}
-
-// A walk that changes nothing, and for each pattern node one that marks its images.
+// A walk that notes nothing, and for each pattern node one that notes its images.
 fn print_visits(instance: PackedInstance, pattern: PackedPattern)
     requires { ⌜ Stored instance pattern ⌝ }
 {
-    let mut marks = [0; PackedInstance::NODES];
-    let count = visit_all(
-        instance,
-        pattern,
-        &[PackedAction::PATTERN_ONLY, 0],
-        &mut marks,
-    );
-    print_number(b" visits=", count);
-    print_number(b" marks=", marked(&marks));
+    let mut none = no_notes();
+    let visits = visit_all(instance, pattern, &[], &mut none);
+    print_number(b" visits=", visits);
+    print_number(b" marks=", count(&none) as u64);
     let mut q = 0;
     while q < pattern.order as u64 {
-        let mut images = [0; PackedInstance::NODES];
-        visit_all(
-            instance,
-            pattern,
-            &[PackedAction::NODE_DELETION, q],
-            &mut images,
-        );
-        print_number(b",", marked(&images));
+        let mut images = no_notes();
+        visit_all(instance, pattern, &[TOGETHER, q], &mut images);
+        print_number(b",", count(&images) as u64);
         q += 1;
     }
 }

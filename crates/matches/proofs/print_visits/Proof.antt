@@ -5,10 +5,13 @@ use Rattle.matches.proofs.print_visits.Statement.{statement}
 use Rattle.matches.proofs.print_visits.Tie as tie
 
 abbrev Inv-loop : tie.InvT-loop
-Inv-loop instance pattern count q₀ t10 q = Unit {0}
+Inv-loop instance pattern visits q₀ t10 q = Unit {0}
 
 abbrev μ-loop : tie.MeasureT-loop
-μ-loop instance pattern count q₀ t10 q = pattern .order - q
+μ-loop instance pattern visits q₀ t10 q = pattern .order - q
+
+no-notes-requires : tie.Need-no-notes-requires Inv-loop μ-loop
+no-notes-requires c κs = search needs
 
 slice-aggregate-visit-all : tie.Need-slice-aggregate-visit-all Inv-loop μ-loop
 slice-aggregate-visit-all c = search needs
@@ -28,17 +31,20 @@ print-number-requires c κs = search needs
 slice-aggregate-print-number-2 : tie.Need-slice-aggregate-print-number-2 Inv-loop μ-loop
 slice-aggregate-print-number-2 c = search needs
 
-slice-aggregate-marked : tie.Need-slice-aggregate-marked Inv-loop μ-loop
-slice-aggregate-marked c = search needs
+slice-aggregate-count : tie.Need-slice-aggregate-count Inv-loop μ-loop
+slice-aggregate-count c = search needs
 
-marked-requires : tie.Need-marked-requires Inv-loop μ-loop
-marked-requires c κs = search needs
+count-requires : tie.Need-count-requires Inv-loop μ-loop
+count-requires c κs = search needs
 
 print-number-requires-2 : tie.Need-print-number-requires-2 Inv-loop μ-loop
 print-number-requires-2 c κs = search needs
 
 loop-holds : tie.Need-loop-holds Inv-loop μ-loop
 loop-holds c = search needs
+
+no-notes-requires-2 : tie.Need-no-notes-requires-2 Inv-loop μ-loop
+no-notes-requires-2 c κs = search needs
 
 slice-aggregate-visit-all-3 : tie.Need-slice-aggregate-visit-all-3 Inv-loop μ-loop
 slice-aggregate-visit-all-3 c = search needs
@@ -52,11 +58,11 @@ visit-all-requires-2 c κs = search needs
 slice-aggregate-print-number-3 : tie.Need-slice-aggregate-print-number-3 Inv-loop μ-loop
 slice-aggregate-print-number-3 c = search needs
 
-slice-aggregate-marked-2 : tie.Need-slice-aggregate-marked-2 Inv-loop μ-loop
-slice-aggregate-marked-2 c = search needs
+slice-aggregate-count-2 : tie.Need-slice-aggregate-count-2 Inv-loop μ-loop
+slice-aggregate-count-2 c = search needs
 
-marked-requires-2 : tie.Need-marked-requires-2 Inv-loop μ-loop
-marked-requires-2 c κs = search needs
+count-requires-2 : tie.Need-count-requires-2 Inv-loop μ-loop
+count-requires-2 c κs = search needs
 
 print-number-requires-3 : tie.Need-print-number-requires-3 Inv-loop μ-loop
 print-number-requires-3 c κs = search needs
@@ -79,22 +85,24 @@ print-visits-spec =
     (tie.spec
     Inv-loop
     μ-loop
+    no-notes-requires
     slice-aggregate-visit-all
     slice-aggregate-visit-all-2
     visit-all-requires
     slice-aggregate-print-number
     print-number-requires
     slice-aggregate-print-number-2
-    slice-aggregate-marked
-    marked-requires
+    slice-aggregate-count
+    count-requires
     print-number-requires-2
     loop-holds
+    no-notes-requires-2
     slice-aggregate-visit-all-3
     slice-aggregate-visit-all-4
     visit-all-requires-2
     slice-aggregate-print-number-3
-    slice-aggregate-marked-2
-    marked-requires-2
+    slice-aggregate-count-2
+    count-requires-2
     print-number-requires-3
     add-q
     loop-less
