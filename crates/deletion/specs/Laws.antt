@@ -1,0 +1,4 @@
+-- Laws of deletions, by subject.
+pub mod Marked
+pub mod Retained
+pub mod Deletions
