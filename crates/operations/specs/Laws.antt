@@ -1,0 +1,7 @@
+-- Laws of the operations, by subject.
+pub mod Asked
+pub mod Parts
+pub mod Slices
+pub mod Performed
+pub mod Counted
+pub mod Calls
