@@ -1,7 +1,9 @@
-//! Times the engine's walk over all matchings against a matcher in Rust, on the same instances and patterns, in one run.
-//! Prints a row for each: the matchings, both times, and their ratio.
+//! Times the engine against Rust on the same instances, in one run: its walk over all matchings of a pattern, and the five operations.
+//! Prints a row for each: both times, and their ratio.
 
+mod applying;
 mod baseline;
+mod operations;
 
 use baseline::{Graph, Matcher, Pattern};
 use std::fmt::Write;
@@ -19,12 +21,14 @@ extern "C" {
     fn count_matchings(file: *const u8, file_len: usize, rule: *const u8, rule_len: usize, times: u64) -> Counted;
 }
 
-/// An instance with its scheme: kinds of classes and names by their number, nodes (number, class, value), edges.
+/// An instance with its scheme: kinds of classes and names by their number, nodes (number, class, value), edges. Permitted are the triples of its
+/// edges, and `more`.
 struct Drawing {
     classes: Vec<u64>,
     names: Vec<u64>,
     nodes: Vec<(u64, u64, u64)>,
     edges: Vec<(u64, u64, u64)>,
+    more: Vec<(u64, u64, u64)>,
 }
 
 impl Drawing {
@@ -38,6 +42,7 @@ impl Drawing {
         }
         let class = |number: u64| self.nodes.iter().find(|n| n.0 == number).unwrap().1;
         let mut may: Vec<_> = self.edges.iter().map(|e| (class(e.0), e.1, class(e.2))).collect();
+        may.extend(&self.more);
         may.sort();
         may.dedup();
         for (a, n, b) in may {
@@ -60,8 +65,8 @@ impl Drawing {
     }
 }
 
-fn rule(p: &Pattern) -> String {
-    let mut s = String::from("op=0\n");
+fn rule(code: u64, p: &Pattern) -> String {
+    let mut s = format!("op={code}\n");
     for (class, value) in &p.nodes {
         writeln!(s, "pnode={class},{},{}", value.is_some() as u64, value.unwrap_or(0)).unwrap();
     }
@@ -84,6 +89,7 @@ fn drawing(order: u64, to: impl Fn(u64) -> Vec<u64>) -> Drawing {
         names: vec![1],
         nodes: (0..order).map(|i| (number(i), 0, 0)).collect(),
         edges,
+        more: Vec::new(),
     }
 }
 
@@ -112,7 +118,7 @@ fn kitchen(cabinets: u64) -> Drawing {
         }
     }
     edges.sort();
-    Drawing { classes: vec![0, 0, 1], names: vec![0, 0, 1], nodes, edges }
+    Drawing { classes: vec![0, 0, 1], names: vec![0, 0, 1], nodes, edges, more: Vec::new() }
 }
 
 /// A round takes some 4 ms, and the least of so many rounds counts.
@@ -120,23 +126,39 @@ const ROUND: f64 = 4e6;
 const ROUNDS: usize = 25;
 const ROUNDS_OF_ONE: usize = 5;
 
-/// The least time of one call, in nanoseconds, where `call(n)` makes n of them and takes `besides` nanoseconds for something else.
-fn least(besides: f64, call: impl Fn(u64)) -> f64 {
-    let start = Instant::now();
-    call(1);
-    let once = (start.elapsed().as_nanos() as f64 - besides).max(100.0);
-    let times = (ROUND / once).clamp(1.0, 20000.0) as u64;
-    (0..if times == 1 { ROUNDS_OF_ONE } else { ROUNDS })
-        .map(|_| {
-            let start = Instant::now();
-            call(times);
-            (start.elapsed().as_nanos() as f64 - besides) / times as f64
-        })
-        .fold(f64::MAX, f64::min)
+/// Calls to be timed: `call(n)` makes n of them and takes `besides` nanoseconds for something else.
+struct Timed<'a> {
+    besides: f64,
+    call: &'a dyn Fn(u64),
+}
+
+/// The least time of one call of each, in nanoseconds. Rounds of the one and of the other follow each other.
+fn least<const N: usize>(timed: [Timed; N]) -> [f64; N] {
+    let time = |t: &Timed, times: u64| {
+        let start = Instant::now();
+        (t.call)(times);
+        start.elapsed().as_nanos() as f64 - t.besides
+    };
+    let times = timed.each_ref().map(|t| (ROUND / time(t, 1).max(100.0)).clamp(1.0, 20000.0) as u64);
+    let mut least = [f64::MAX; N];
+    for round in 0..ROUNDS {
+        for i in (0..N).filter(|&i| round < ROUNDS_OF_ONE || times[i] > 1) {
+            least[i] = least[i].min(time(&timed[i], times[i]) / times[i] as f64);
+        }
+    }
+    least
+}
+
+/// The least times of one call of each. A call of the engine reads file and rule once, however often it does the rest, which is taken off.
+fn both(engine: &dyn Fn(u64), rust: &dyn Fn(u64)) -> (f64, f64) {
+    let reading = |times: u64| (0..times).for_each(|_| engine(0));
+    let [read] = least([Timed { besides: 0.0, call: &reading }]);
+    let [ours, theirs] = least([Timed { besides: read, call: engine }, Timed { besides: 0.0, call: rust }]);
+    (ours, theirs)
 }
 
 fn row(name: &str, order: usize, drawing: &Drawing, pattern: &Pattern) -> (f64, f64) {
-    let (file, rule, graph) = (drawing.file(), rule(pattern), drawing.graph());
+    let (file, rule, graph) = (drawing.file(), rule(0, pattern), drawing.graph());
     let engine = |times: u64| unsafe { count_matchings(file.as_ptr(), file.len(), rule.as_ptr(), rule.len(), times) };
     let counted = engine(1);
     assert_eq!((counted.refusal, counted.returned), (0, 0), "{name} is refused");
@@ -152,18 +174,14 @@ fn row(name: &str, order: usize, drawing: &Drawing, pattern: &Pattern) -> (f64, 
         count
     };
     assert_eq!(counted.matchings, baseline(1), "{name}: the two count differently");
-    // A call reads file and rule once, however often it walks.
-    let read = least(0.0, |times| {
-        for _ in 0..times {
-            black_box(engine(0));
-        }
-    });
-    let ours = least(read, |times| {
-        black_box(engine(times));
-    });
-    let theirs = least(0.0, |times| {
-        black_box(baseline(times));
-    });
+    let (ours, theirs) = both(
+        &|times| {
+            black_box(engine(times));
+        },
+        &|times| {
+            black_box(baseline(times));
+        },
+    );
     println!(
         "| {name} | {order} | {} | {:.1} | {:.1} | {:.2} |",
         counted.matchings,
@@ -226,5 +244,6 @@ fn main() {
     };
     row("kitchen of 60 cabinets", d.nodes.len(), &d, &p);
     println!("\n| pattern | matchings, 16 to 64 to 256 nodes | time |\n|---|---|---|");
-    println!("{}", grown.join("\n"));
+    println!("{}\n", grown.join("\n"));
+    applying::table();
 }

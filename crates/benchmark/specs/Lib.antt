@@ -1,3 +1,5 @@
--- What the timed function returns, and the laws that prove it.
+-- What the timed functions return, and the laws that prove it.
+pub mod Applications
+pub mod ApplicationLaws
 pub mod Counted
 pub mod Laws
