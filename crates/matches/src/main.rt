@@ -1,5 +1,5 @@
 // Reads the drawing file that its first argument names, and the rule texts that the others name, and prints of each rule's pattern all matchings,
-// listed by first and after; how many a walk visits and how many nodes it marks; and what comes after lists that are no matchings.
+// listed by first and after; how many a walk visits and how many images it notes; and what comes after lists that are no matchings.
 ghost use Prim.Native.Nat.{_≤_};
 ghost use lib.ListN.{length};
 ghost use Rattle.graph.specs.Packed.{unpackScheme, StoredScheme, StoredInstance};
