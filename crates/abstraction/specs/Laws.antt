@@ -1,5 +1,3 @@
--- Laws of runs and groups, by subject.
-pub mod Running
-pub mod Grouping
+-- Laws of abstraction, by subject.
 pub mod Adding
 pub mod Leading

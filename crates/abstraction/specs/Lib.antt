@@ -1,4 +1,3 @@
--- Runs of edges, groups of images, and laws of them.
-pub mod Runs
+-- What new nodes for groups make of an instance, and laws of it.
 pub mod Grouped
 pub mod Laws

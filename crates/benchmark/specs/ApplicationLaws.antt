@@ -17,12 +17,13 @@ use Rattle.graph.specs.Packed.{unpackScheme, unpackInstance, unpackRule, Stored
 use Rattle.graph.specs.declared.instance.PackedInstance.{PackedInstance}
 use Rattle.graph.specs.declared.rule.PackedRule.{PackedRule}
 use Rattle.graph.specs.declared.scheme.PackedScheme.{PackedScheme}
-use Rattle.reading.specs.Readers.{ReadDrawing, ReadRule}
+use Rattle.verdicts.specs.declared.Answer.the-variants.{Accepted, Refused}
+use Rattle.reading.specs.Readers.{ReadDrawing}
 use Rattle.reading.specs.declared.drawing.DrawingRead.{DrawingRead}
-use Rattle.reading.specs.declared.rules.RuleRead.{RuleRead}
-use Rattle.reading.specs.declared.verdicts.Answer.the-variants.{Accepted, Refused}
+use Rattle.rules.specs.Readers.{ReadRule}
+use Rattle.rules.specs.declared.RuleRead.{RuleRead}
 use Rattle.operations.specs.Applies.{Applies, reported}
-use Rattle.operations.specs.declared.Applied.{Applied}
+use Rattle.reports.specs.declared.Applied.{Applied}
 use Rattle.benchmark.specs.Applications.{noCounts, countsOver, countsIn, replied, instanceOver, AppliesOver, AppliesFiles}
 use Rattle.benchmark.specs.Laws.{opens, reads}
 use Rattle.benchmark.specs.declared.applying.AppliedOver.{AppliedOver}

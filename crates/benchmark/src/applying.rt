@@ -12,8 +12,8 @@ use model::Difference;
 use model::Refusal;
 use operations::apply;
 use reading::drawing::read_drawing;
-use reading::rules::read_rule;
-use reading::verdicts::Answer;
+use rules::read_rule;
+use verdicts::Answer;
 
 // The refusal's number, 0 for none, and what is returned with it; what apply reports.
 #[repr(C)]
@@ -44,8 +44,8 @@ fn refusal_reply(r: Refusal) -> Reply
     ensures { λ a. ⌜ a ≡ replied (refused r) ⌝ }
 {
     Reply {
-        refusal: r.number(),
-        returned: r.returned(),
+        refusal: table::number(r),
+        returned: table::returned(r),
         counts: no_counts(),
     }
 }

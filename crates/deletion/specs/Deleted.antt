@@ -7,7 +7,7 @@ use lib.ListN.{length}
 use lib.Dec.{eqb, ltb}
 use Rattle.lists.specs.Lists.{keep, member, _!_}
 use Rattle.model.specs.Graph.{Instance}
-use Rattle.graph.specs.Keys.{keysRise}
+use Rattle.keys.specs.Keys.{keysRise}
 use Rattle.graph.specs.Packed.{bit, packTriple, unpackInstance, Fits}
 use Rattle.graph.specs.declared.instance.PackedInstance.{PackedInstance}
 

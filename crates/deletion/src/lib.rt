@@ -5,14 +5,14 @@ ghost use mathlib.Core.List.{[]};
 ghost use Prim.Native.Nat.{_^_, _≤_};
 ghost use lib.ListN.{length, take};
 ghost use Rattle.lists.specs.Lists.{keep, Below};
-ghost use Rattle.graph.specs.Keys.{keysRise, Front};
+ghost use Rattle.keys.specs.Keys.{keysRise, Front};
 ghost use Rattle.graph.specs.Packed.{Fits};
 ghost use Rattle.deletion.specs.Deleted.{words, marked, Marks, goes, Tells, WithoutNodes, WithoutEdges};
 use graph::instance::PackedInstance;
-use graph::keys::has_key;
 use graph::packing::NODE_NUMBER;
 use graph::packing::NODE_NUMBERS;
 use graph::packing::TRIPLE_SOURCE;
+use keys::has_key;
 
 // What goes: the nodes that are marked, the edges at them, or edges by their rising keys.
 pub const NODES: u64 = 0;

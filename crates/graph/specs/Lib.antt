@@ -1,5 +1,4 @@
 -- What stored values mean, examples of it, and laws.
 pub mod Packed
-pub mod Keys
 pub mod Examples
 pub mod Laws

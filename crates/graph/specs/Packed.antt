@@ -136,6 +136,11 @@ abbrev pub foundNode : Found → Option (Node ℕ)
 foundNode (At k) = some (unpackNode k)
 foundNode Nothing = none
 
+-- or the number
+abbrev pub foundNumber : Found → Option ℕ
+foundNumber (At n) = some n
+foundNumber Nothing = none
+
 abbrev pub triple : ℕ → ℕ → ℕ → Triple
 triple source name target = record { source = source; name = name; target = target }
 

@@ -7,7 +7,7 @@ ghost use Prim.Native.Nat.{_<_, _≤_};
 ghost use Rattle.lists.specs.Lists.{all};
 ghost use Rattle.model.specs.Limits;
 ghost use Rattle.model.specs.Graph.{declares, ofKind};
-ghost use Rattle.graph.specs.Keys.{Front};
+ghost use Rattle.keys.specs.Keys.{Front};
 ghost use Rattle.graph.specs.Packed.{unpackDeclared, declaredRows, Snug, FreshDeclarations, DeclaredWith};
 use crate::packing::KINDS;
 use crate::packing::NUMBERS;

@@ -7,8 +7,8 @@ ghost use lib.Dec.{eqb};
 ghost use Rattle.lists.specs.Lists.{find};
 ghost use Rattle.lists.specs.Order.{rising};
 ghost use Rattle.graph.specs.Packed.{FreshInstance, unpackNode, foundNode};
-use crate::keys::place;
 use crate::packing::NODE_NUMBER;
+use keys::place;
 
 // A graph's order is its number of nodes, its size the number of its edges.
 #[repr(C)]

@@ -3,7 +3,6 @@
 pub mod declarations;
 pub mod history;
 pub mod instance;
-pub mod keys;
 pub mod packing;
 pub mod pattern;
 pub mod rule;

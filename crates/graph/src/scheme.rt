@@ -6,9 +6,9 @@ ghost use Prim.Native.Nat.{_<_, _^_};
 ghost use Rattle.model.specs.Graph.{has};
 ghost use Rattle.graph.specs.Packed.{FreshScheme, unpackTriple, triplesRise, triple};
 use crate::declarations::Declarations;
-use crate::keys::has_key;
 use crate::packing::TRIPLE_NAME;
 use crate::packing::TRIPLE_SOURCE;
+use keys::has_key;
 
 #[repr(C)]
 pub struct PackedScheme {

@@ -6,13 +6,15 @@ ghost use Prim.Native.Nat.{_-_, _≤_};
 ghost use lib.ListN.{length, take};
 ghost use Rattle.model.specs.Meaning.{mostOfDrawing};
 ghost use Rattle.graph.specs.Packed.{unpackScheme, StoredScheme, StoredInstance};
+use console::print_numbers;
+use files::load;
 use graph::instance::PackedInstance;
 use graph::scheme::PackedScheme;
 use model::Refusal;
 use model::SaveAnswer;
 use reading::drawing::read_drawing;
-use reading::rules::read_rule;
-use reading::verdicts::Answer;
+use rules::read_rule;
+use verdicts::Answer;
 use writing::save::save;
 
 // The most bytes that a name has.
@@ -27,14 +29,8 @@ const FILE: usize = 20032;
 // What stands in a buffer before it is lent: a byte that no drawing file has.
 const BLANK: u8 = b'.';
 
-fn print_number(before: &[u8], n: u64) {
-    io::write_all(1, before);
-    io::print_decimal(1, n);
-}
-
 fn print_refused(r: Refusal) {
-    print_number(b" refused=", r.number());
-    print_number(b",", r.returned());
+    print_numbers(b" refused=", &[table::number(r), table::returned(r)]);
     io::write_all(1, b"\n");
 }
 
@@ -64,9 +60,11 @@ fn print_short(scheme: PackedScheme, instance: PackedInstance, buf: &mut [u8])
     requires { ⌜ StoredInstance (unpackScheme scheme) instance ⌝ }
 {
     if let SaveAnswer::Refused(refusal) = save(scheme, instance, buf) {
-        print_number(b" short=", refusal.number());
-        print_number(b",", refusal.returned());
-        print_number(b" kept=", blanks(buf));
+        print_numbers(
+            b" short=",
+            &[table::number(refusal), table::returned(refusal)],
+        );
+        print_numbers(b" kept=", &[blanks(buf)]);
     }
 }
 
@@ -93,7 +91,7 @@ fn print_same(scheme: PackedScheme, instance: PackedInstance, text: &[u8], buf: 
     requires { ⌜ StoredInstance (unpackScheme scheme) instance ⌝ }
 {
     if let SaveAnswer::Saved { length: _ } = save(scheme, instance, buf) {
-        print_number(b" same=", same(text, buf) as u64);
+        print_numbers(b" same=", &[same(text, buf) as u64]);
     }
 }
 
@@ -122,7 +120,7 @@ fn save_closely(scheme: PackedScheme, instance: PackedInstance, text: &[u8], len
 fn print_rest(buf: &[u8], taken: usize)
     requires { ⌜ taken ≤ length (now buf) ⌝ }
 {
-    print_number(b" rest=", blanks(&buf[taken..]));
+    print_numbers(b" rest=", &[blanks(&buf[taken..])]);
 }
 
 fn show_saved(scheme: PackedScheme, instance: PackedInstance, text: &[u8])
@@ -132,7 +130,7 @@ fn show_saved(scheme: PackedScheme, instance: PackedInstance, text: &[u8])
     let mut buf = [0; FILE];
     blank(&mut buf);
     if let SaveAnswer::Saved { length } = save(scheme, instance, &mut buf) {
-        print_number(b" saved=", length);
+        print_numbers(b" saved=", &[length]);
         print_rest(&buf, length as usize);
         save_closely(scheme, instance, text, length as usize);
     }
@@ -149,8 +147,7 @@ fn show_drawing(text: &[u8], before: PackedScheme) -> PackedScheme
     let answer = read.answer;
     match answer {
         Answer::Accepted => {
-            print_number(b" opened=", scheme.classes.count());
-            print_number(b",", scheme.names.count());
+            print_numbers(b" opened=", &[scheme.classes.count(), scheme.names.count()]);
             show_saved(scheme, instance, text);
             io::write_all(1, b"\n");
             scheme
@@ -172,11 +169,11 @@ fn show_rule(text: &[u8], scheme: PackedScheme)
     let answer = read.answer;
     match answer {
         Answer::Accepted => {
-            print_number(b" op=", action.code);
-            print_number(b" pnodes=", pattern.order as u64);
-            print_number(b" pedges=", pattern.size as u64);
-            print_number(b" head=", action.head);
-            print_number(b" parts=", action.count as u64);
+            print_numbers(b" op=", &[action.code]);
+            print_numbers(b" pnodes=", &[pattern.order as u64]);
+            print_numbers(b" pedges=", &[pattern.size as u64]);
+            print_numbers(b" head=", &[action.head]);
+            print_numbers(b" parts=", &[action.count as u64]);
             io::write_all(1, b"\n");
         }
         Answer::Refused(refusal) => print_refused(refusal),
@@ -188,22 +185,20 @@ fn show_file(name: &[u8], scheme: PackedScheme) -> PackedScheme
     requires { ⌜ StoredScheme scheme ⌝ }
     ensures { λ r. ⌜ StoredScheme r ⌝ }
 {
-    let file = os::open_read(name);
-    if file < 0 {
-        os::fail(name);
+    let mut text = [0u8; ENOUGH];
+    let loaded = load(name, &mut text);
+    if !loaded.readable {
         return scheme;
     }
-    let mut text = [0u8; ENOUGH];
-    let length = io::read_full(file, &mut text);
-    libc::close(file);
+    let length = loaded.length;
     io::write_all(1, name);
     if 0 < name.len() {
         if name[0] == b'r' {
-            show_rule(&text[..length], scheme);
+            show_rule(&text[0..length], scheme);
             return scheme;
         }
     }
-    show_drawing(&text[..length], scheme)
+    show_drawing(&text[0..length], scheme)
 }
 
 fn main() {

@@ -1,11 +1,4 @@
--- Laws of the search, and of what the calls give, by subject.
-pub mod Levels
-pub mod Tests
-pub mod Visits
-pub mod Walk
-pub mod Seek
-pub mod Planned
-pub mod Matchings
+-- Laws of what is reached with tables, and of what the calls give, by subject.
 pub mod Reached
 pub mod Calls
 pub mod Given

@@ -1,5 +1,4 @@
--- What the matcher promises, the search by levels, and laws.
+-- What the matcher promises, and laws.
 pub mod Matchers
 pub mod Listing
-pub mod Search
 pub mod Laws

@@ -1,9 +1,10 @@
 // Reads the drawing file that its first argument names, and the rule texts that the others name, and prints of each rule's pattern all matchings,
 // listed by first and after; how many a walk visits and how many images it notes; and what comes after lists that are no matchings.
-ghost use Prim.Native.Nat.{_≤_};
-ghost use lib.ListN.{length};
 ghost use Rattle.graph.specs.Packed.{unpackScheme, StoredScheme, StoredInstance};
 ghost use Rattle.matcher.specs.Matchers.{Stored};
+use console::print_first;
+use console::print_numbers;
+use files::load;
 use graph::instance::PackedInstance;
 use graph::pattern::PackedPattern;
 use graph::scheme::PackedScheme;
@@ -17,8 +18,8 @@ use notes::TOGETHER;
 use notes::count;
 use notes::no_notes;
 use reading::drawing::read_drawing;
-use reading::rules::read_rule;
-use reading::verdicts::Answer;
+use rules::read_rule;
+use verdicts::Answer;
 
 // The most bytes that a name has.
 const NAME: usize = 64;
@@ -29,29 +30,8 @@ const LISTED: usize = 100;
 // The first so many bytes of a text decide how it is read.
 const ENOUGH: usize = 20106;
 
-fn print_number(before: &[u8], n: u64) {
-    io::write_all(1, before);
-    io::print_decimal(1, n);
-}
-
 fn print_refused(r: Refusal) {
-    print_number(b" refused=", r.number());
-    print_number(b",", r.returned());
-}
-
-fn print_numbers(numbers: [u64; PackedPattern::NODES], length: u64) {
-    io::write_all(1, b" (");
-    let mut i = 0;
-    while i < PackedPattern::NODES {
-        if (i as u64) < length {
-            if 0 < i {
-                io::write_all(1, b",");
-            }
-            io::print_decimal(1, numbers[i]);
-        }
-        i += 1;
-    }
-    io::write_all(1, b")");
+    print_numbers(b" refused=", &[table::number(r), table::returned(r)]);
 }
 
 // Prints what is given; whether it is a matching.
@@ -60,7 +40,8 @@ fn print_given(given: Matched) -> bool {
     let answer = given.answer;
     match answer {
         MatchingAnswer::Found { length } => {
-            print_numbers(numbers, length);
+            print_first(b" (", &numbers, length);
+            io::write_all(1, b")");
             true
         }
         MatchingAnswer::Nothing => {
@@ -98,13 +79,13 @@ fn print_visits(instance: PackedInstance, pattern: PackedPattern)
 {
     let mut none = no_notes();
     let visits = visit_all(instance, pattern, &[], &mut none);
-    print_number(b" visits=", visits);
-    print_number(b" marks=", count(&none) as u64);
+    print_numbers(b" visits=", &[visits]);
+    print_numbers(b" marks=", &[count(&none) as u64]);
     let mut q = 0;
     while q < pattern.order as u64 {
         let mut images = no_notes();
         visit_all(instance, pattern, &[TOGETHER, q], &mut images);
-        print_number(b",", count(&images) as u64);
+        print_numbers(b",", &[count(&images) as u64]);
         q += 1;
     }
 }
@@ -114,8 +95,8 @@ fn print_after(instance: PackedInstance, pattern: PackedPattern, number: u64)
 {
     let levels = pattern.order;
     let list = [number; PackedPattern::NODES + 1];
-    print_number(b" after=", number);
-    print_given(after(instance, pattern, &list[..levels]));
+    print_numbers(b" after=", &[number]);
+    print_given(after(instance, pattern, &list[0..levels]));
 }
 
 fn show_pattern(instance: PackedInstance, pattern: PackedPattern)
@@ -131,28 +112,18 @@ fn show_pattern(instance: PackedInstance, pattern: PackedPattern)
     io::write_all(1, b"\n");
 }
 
-// Reads what is in an open file, and closes it.
-fn read_opened(file: i32, text: &mut [u8]) -> usize
-    ensures { λ r. ⌜ r ≤ length (now (text .entry)) ⌝ }
-{
-    let length = io::read_full(file, text);
-    libc::close(file);
-    length
-}
-
 fn show_rule(scheme: PackedScheme, instance: PackedInstance, name: &[u8])
     requires { ⌜ StoredScheme scheme ⌝ }
     requires { ⌜ StoredInstance (unpackScheme scheme) instance ⌝ }
 {
-    let file = os::open_read(name);
-    if file < 0 {
-        os::fail(name);
+    let mut text = [0u8; ENOUGH];
+    let loaded = load(name, &mut text);
+    if !loaded.readable {
         return;
     }
-    let mut text = [0u8; ENOUGH];
-    let length = read_opened(file, &mut text);
+    let length = loaded.length;
     io::write_all(1, name);
-    let read = read_rule(&text[..length], scheme);
+    let read = read_rule(&text[0..length], scheme);
     let rule = read.rule;
     let pattern = rule.pattern;
     let answer = read.answer;
@@ -182,14 +153,13 @@ fn show_rules(scheme: PackedScheme, instance: PackedInstance)
 fn main() {
     let mut name = [0u8; NAME];
     let length = os::arg(1, &mut name);
-    let file = os::open_read(&name[..length]);
-    if file < 0 {
-        os::fail(&name[..length]);
+    let mut text = [0u8; ENOUGH];
+    let loaded = load(&name[..length], &mut text);
+    if !loaded.readable {
         return;
     }
-    let mut text = [0u8; ENOUGH];
-    let size = read_opened(file, &mut text);
-    let read = read_drawing(&text[..size]);
+    let size = loaded.length;
+    let read = read_drawing(&text[0..size]);
     let scheme = read.scheme;
     let instance = read.instance;
     let answer = read.answer;

@@ -1,6 +1,5 @@
-// What a call answers: an enum for each call, and each holds the refusal enum.
-ghost use mathlib.Core.Path.{_≡_};
-ghost use Rattle.model.specs.Refusals.{tableRow};
+// What a call answers: an enum for each call, and each holds the refusal enum. Its number and what is returned with it are `tableRow`
+// (specs/Refusals.antt), and in code `table`.
 
 // The fourteen rows of "When the engine declines", in their order, each with what the call returns.
 pub enum Refusal {
@@ -18,52 +17,6 @@ pub enum Refusal {
     FunctionalClash { node: u64 },
     BufferShort { needed: u64 },
     LengthDiffers { length: u64 },
-}
-
-impl Refusal {
-    // The number that document 01 gives the refusal.
-    pub fn number(self) -> u64
-        ensures { λ r. ⌜ r ≡ tableRow self .number ⌝ }
-    {
-        match self {
-            Refusal::Malformed { line: _ } => 1,
-            Refusal::TooMany { line: _ } => 2,
-            Refusal::Undeclared { line: _ } => 3,
-            Refusal::Nonconforming { line: _ } => 4,
-            Refusal::BadAction { line: _ } => 5,
-            Refusal::NotOpen => 6,
-            Refusal::AlreadyOpen => 7,
-            Refusal::NoCopy => 8,
-            Refusal::NodesFull => 9,
-            Refusal::NumbersFull => 10,
-            Refusal::EdgesFull => 11,
-            Refusal::FunctionalClash { node: _ } => 12,
-            Refusal::BufferShort { needed: _ } => 13,
-            Refusal::LengthDiffers { length: _ } => 14,
-        }
-    }
-
-    // What the call returns beside the number: a line, a node, a length, or 0.
-    pub fn returned(self) -> u64
-        ensures { λ r. ⌜ r ≡ tableRow self .returned ⌝ }
-    {
-        match self {
-            Refusal::Malformed { line } => line,
-            Refusal::TooMany { line } => line,
-            Refusal::Undeclared { line } => line,
-            Refusal::Nonconforming { line } => line,
-            Refusal::BadAction { line } => line,
-            Refusal::NotOpen => 0,
-            Refusal::AlreadyOpen => 0,
-            Refusal::NoCopy => 0,
-            Refusal::NodesFull => 0,
-            Refusal::NumbersFull => 0,
-            Refusal::EdgesFull => 0,
-            Refusal::FunctionalClash { node } => node,
-            Refusal::BufferShort { needed } => needed,
-            Refusal::LengthDiffers { length } => length,
-        }
-    }
 }
 
 // Open reports how many classes and how many names were declared.

@@ -7,7 +7,7 @@ use lib.ListN.{length, take, drop}
 use lib.Dec.{ltb}
 use Rattle.lists.specs.Lists.{member, _!_}
 use Rattle.model.specs.Limits
-use Rattle.graph.specs.Keys.{joinKey}
+use Rattle.keys.specs.Keys.{joinKey}
 
 -- one more than an instance has edges
 abbrev pub most : ℕ

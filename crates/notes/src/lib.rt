@@ -4,7 +4,7 @@ ghost use mathlib.Core.Path.{_≡_};
 ghost use mathlib.Core.List.{[]};
 ghost use Rattle.notes.specs.Notes.{count, noted, note, noteAll, Kept, Notes};
 use graph::instance::PackedInstance;
-use graph::keys::insert;
+use keys::insert;
 
 // How many keys are noted at most: one more than an instance has edges, which tells that they are too many.
 pub const ROOM: usize = PackedInstance::EDGES + 1;

@@ -9,7 +9,7 @@ use Rattle.graph.specs.Packed.{unpackScheme, unpackInstance, unpackRule, Stored
 use Rattle.graph.specs.declared.instance.PackedInstance.{PackedInstance}
 use Rattle.graph.specs.declared.rule.PackedRule.{PackedRule}
 use Rattle.graph.specs.declared.scheme.PackedScheme.{PackedScheme}
-use Rattle.operations.specs.declared.Applied.{Applied}
+use Rattle.reports.specs.declared.Applied.{Applied}
 
 -- "Apply reports matchings, nodes added, edges added, nodes removed, edges removed", or it is refused
 abbrev pub reported : Pattern → Instance → Outcome Instance → Outcome Report

@@ -1,4 +1,4 @@
--- What apply promises, what is noted for a rule and made of the notes, and laws.
+-- What apply promises, what is noted for a rule when all matchings are visited, and laws.
 pub mod Applies
-pub mod Noted
+pub mod Walked
 pub mod Laws

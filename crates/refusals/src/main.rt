@@ -8,9 +8,9 @@ use model::Refusal;
 
 fn refused(r: Refusal) {
     io::write_all(1, b"refused=");
-    io::print_decimal(1, r.number());
+    io::print_decimal(1, table::number(r));
     io::write_all(1, b",");
-    io::print_decimal(1, r.returned());
+    io::print_decimal(1, table::returned(r));
     io::write_all(1, b"\n");
 }
 

@@ -15,9 +15,10 @@ use Rattle.model.specs.Laws.SavedFiles.{read-write}
 use Rattle.graph.specs.Packed.{unpackScheme, unpackInstance}
 use Rattle.model.specs.declared.SaveAnswer.{SaveAnswer}
 use Rattle.model.specs.declared.SaveAnswer.the-variants.{Saved}
-use Rattle.reading.specs.Readers.{outcome, contents, ReadDrawing}
-use Rattle.reading.specs.declared.verdicts.Answer.{Answer}
-use Rattle.reading.specs.declared.verdicts.Answer.the-variants.{Accepted, Refused}
+use Rattle.verdicts.specs.Verdicts.{outcome}
+use Rattle.verdicts.specs.declared.Answer.{Answer}
+use Rattle.verdicts.specs.declared.Answer.the-variants.{Accepted, Refused}
+use Rattle.reading.specs.Readers.{contents, ReadDrawing}
 use Rattle.reading.specs.declared.drawing.DrawingRead.{DrawingRead}
 use Rattle.writing.specs.Writers.{Saves, SavesText}
 use Rattle.writing.specs.Laws.Saving.{saved-text, saved-file}

@@ -1,9 +1,4 @@
--- Laws of numerals, keys and lines: those of reading, then those of writing.
-pub mod Scan
-pub mod Kinds
+-- Laws of lines: a line's numbers, the order of lines, the line that a text is.
 pub mod Rows
 pub mod Lines
 pub mod Parsing
-pub mod Digits
-pub mod Numbers
-pub mod Written

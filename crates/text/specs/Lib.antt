@@ -1,6 +1,3 @@
--- What numerals, forms and lines in the code stand for, and laws of it.
-pub mod Scan
-pub mod Forms
+-- What lines in the code stand for, and laws of it.
 pub mod Lines
-pub mod Written
 pub mod Laws

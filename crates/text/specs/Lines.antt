@@ -4,7 +4,6 @@ use mathlib.Core.Path.{_≡_}
 use mathlib.Core.Bool.{Bool, true, cond, _&&_, _||_}
 use mathlib.Core.Option.{Option, none, some}
 use mathlib.Core.List.{List, map}
-use lib.ListN.{getD}
 use lib.Dec.{eqb, ltb}
 use Rattle.lists.specs.Lists.{countFrom}
 use Rattle.lists.specs.Text.{pieces}
@@ -12,25 +11,17 @@ use Rattle.lists.specs.Decimal.{value}
 use Rattle.lists.specs.Radix.{product, rank, unrank}
 use Rattle.model.specs.Graph.{Scheme}
 use Rattle.model.specs.Files.{Line, checks, Format, rises, inForm, lineOf}
-use Rattle.model.specs.Files.DrawingFile.{DrawingKey, class=, drawingFormat}
-use Rattle.model.specs.Files.RuleText.{RuleKey, op=, ruleFormat}
-use Rattle.model.specs.Files.RuleText.{ruleKeys}
-use Rattle.model.specs.Files.DrawingFile.{drawingKeys}
-use Rattle.text.specs.Forms.{firstRuleKind, kindCount, kindAt}
-use Rattle.text.specs.declared.numerals.Numeral.{Numeral}
-use Rattle.text.specs.declared.numerals.Numeral.the-variants as numeral
+use Rattle.model.specs.Files.DrawingFile.{DrawingKey, drawingFormat}
+use Rattle.model.specs.Files.RuleText.{RuleKey, ruleFormat}
+use Rattle.forms.specs.Forms.{firstRuleKind, kindCount, kindAt, drawingKey, ruleKey}
+use Rattle.numerals.specs.declared.scan.Numeral.{Numeral}
+use Rattle.numerals.specs.declared.scan.Numeral.the-variants as numeral
 use Rattle.text.specs.declared.lines.Line.{Line as PackedLine}
 use Rattle.text.specs.declared.lines.Last.{Last}
 use Rattle.text.specs.declared.lines.Parsed.{Parsed}
 use Rattle.text.specs.declared.lines.Parsed.the-variants.{Read, Malformed}
 
 -- # What a line stands for
-abbrev pub drawingKey : ℕ → DrawingKey
-drawingKey kind = getD drawingKeys kind class=
-
-abbrev pub ruleKey : ℕ → RuleKey
-ruleKey kind = getD ruleKeys (kind - firstRuleKind) op=
-
 -- the numbers that a row of the kind is made of
 abbrev pub rowNumbers : PackedLine → List ℕ
 rowNumbers l = unrank (kindAt (l .kind) .rooms) (l .row)

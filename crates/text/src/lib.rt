@@ -1,6 +1,2 @@
-// From bytes to lines and back: numerals, the table of forms, and the lines of drawing files and rule texts.
-pub mod digits;
-pub mod forms;
+// From bytes to lines: the lines of drawing files and rule texts, and their order.
 pub mod lines;
-pub mod numerals;
-pub mod written;

@@ -2,14 +2,14 @@
 ghost use mathlib.Core.Path.{_≡_};
 ghost use Prim.Native.Nat.{_<_, _≤_};
 ghost use Rattle.model.specs.Files.{full};
-ghost use Rattle.text.specs.Forms.{kindCount, kindAt};
+ghost use Rattle.forms.specs.Forms.{kindCount, kindAt};
 ghost use Rattle.text.specs.Lines.{Tabled, rowIn, lineIn, DrawingParsed, RuleParsed, FreshLast, followsLast};
-use crate::forms::Form;
-use crate::forms::form_at;
-use crate::forms::key_of;
-use crate::numerals::Numeral;
-use crate::numerals::find;
-use crate::numerals::numeral_below;
+use forms::Form;
+use forms::form_at;
+use forms::key_of;
+use numerals::scan::Numeral;
+use numerals::scan::find;
+use numerals::scan::numeral_below;
 
 // A line's kind, and its numbers as one.
 #[repr(C)]

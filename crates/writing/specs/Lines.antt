@@ -3,7 +3,7 @@ use Prim.Native.Nat.{ℕ}
 use mathlib.Core.List.{List, _++_}
 use Rattle.lists.specs.Lists.{each}
 use Rattle.model.specs.Files.DrawingFile.{DrawingKey, class=, name=, may=, node=, edge=, drawingForm}
-use Rattle.text.specs.Written.{rowText}
+use Rattle.printing.specs.Written.{rowText}
 
 -- the lines of one kind
 unfoldable pub rowsText : (kind : ℕ) (rows : List ℕ) → List ℕ

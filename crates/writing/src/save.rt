@@ -5,17 +5,17 @@ ghost use lib.ListN.{length};
 ghost use Rattle.lists.specs.Buffers.{Writes, WritesFrom};
 ghost use Rattle.model.specs.Meaning.{mostOfDrawing};
 ghost use Rattle.graph.specs.Packed.{unpackScheme, unpackInstance, StoredScheme, StoredInstance};
-ghost use Rattle.text.specs.Forms.{kindCount};
+ghost use Rattle.forms.specs.Forms.{kindCount};
 ghost use Rattle.writing.specs.Lines.{rowsText, fileOfRows};
 ghost use Rattle.writing.specs.Writers.{Saves, SavesText};
+use forms::Form;
 use graph::instance::PackedInstance;
 use graph::packing::NUMBERS;
 use graph::scheme::PackedScheme;
 use model::Refusal;
 use model::SaveAnswer;
-use text::forms::Form;
-use text::written::row_length;
-use text::written::write_row;
+use printing::row_length;
+use printing::write_row;
 
 // How many bytes the lines of one kind have.
 fn rows_length(kind: usize, rows: &[u64]) -> usize

@@ -14,13 +14,14 @@ use Rattle.lists.specs.Laws.Lists.{in-keep, in-map}
 use Rattle.model.specs.Graph.{Instance}
 use Rattle.model.specs.Refusals.{Outcome, accepted, _>>=_, inTurn}
 use Rattle.model.specs.declared.Refusal.{Refusal}
-use Rattle.graph.specs.Keys.{Front}
-use Rattle.addition.specs.Growth.{judged, held, Growing, Grows}
-use Rattle.addition.specs.declared.growth.Verdict.{Verdict}
-use Rattle.addition.specs.declared.growth.Verdict.the-variants.{Done, Refused}
-use Rattle.abstraction.specs.Runs.{hasTargets}
-use Rattle.abstraction.specs.Grouped.{alike, armsLedBy, GrowsTo, addedWith, addedAt}
-use Rattle.abstraction.specs.declared.grouping.Grown.{Grown}
+use Rattle.keys.specs.Keys.{Front}
+use Rattle.growth.specs.Growth.{judged, held, Growing, Grows}
+use Rattle.growth.specs.declared.Verdict.{Verdict}
+use Rattle.growth.specs.declared.Verdict.the-variants.{Done, Refused}
+use Rattle.edge_runs.specs.Runs.{hasTargets}
+use Rattle.groups.specs.Groups.{alike, armsLedBy}
+use Rattle.abstraction.specs.Grouped.{GrowsTo, addedWith, addedAt}
+use Rattle.abstraction.specs.declared.Grown.{Grown}
 
 -- # One group
 module _ (class : ℕ) (arms old numbers : List ℕ) (b : ℕ) (nodes : List ℕ) (order : ℕ) (edges : List ℕ) (size : ℕ)

@@ -21,17 +21,18 @@ use Rattle.model.specs.Operations.{abstract, withNode, newNodes, imagesOf, targ
 use Rattle.model.specs.Refusals.{Outcome, accepted, refused, _>>=_, inTurn}
 use Rattle.model.specs.Sound.{Sound, SoundRule, suits}
 use Rattle.model.specs.Laws.Graph.{stands-node, of-class, joins-triple, listed-instance}
-use Rattle.graph.specs.Keys.{keysRise, Front}
+use Rattle.keys.specs.Keys.{keysRise, Front}
+use Rattle.keys.specs.Laws.Keys.{rise-cons, keys-determined, keep-rises}
 use Rattle.graph.specs.Packed.{unpackTriple, unpackNode, unpackArm, instanceOf, unpackInstance}
 use Rattle.graph.specs.declared.instance.PackedInstance.{PackedInstance}
-use Rattle.graph.specs.Laws.Keys.{rise-cons, keys-determined, keep-rises}
 use Rattle.notes.specs.Notes.{sorted}
 use Rattle.notes.specs.Visits.{visited}
 use Rattle.notes.specs.Laws.Images.{images-noted, noted-below}
-use Rattle.addition.specs.Growth.{held, Makes}
-use Rattle.addition.specs.declared.growth.Verdict.{Verdict}
-use Rattle.abstraction.specs.Runs.{runOf, lowest, targetsAt, hasTargets}
-use Rattle.abstraction.specs.Grouped.{numbersOf, alike, armsLedBy, GrowsTo, addedWith, addedAt, groupedTo}
+use Rattle.growth.specs.Growth.{held, Makes}
+use Rattle.growth.specs.declared.Verdict.{Verdict}
+use Rattle.edge_runs.specs.Runs.{runOf, lowest, targetsAt, hasTargets}
+use Rattle.groups.specs.Groups.{numbersOf, alike, armsLedBy}
+use Rattle.abstraction.specs.Grouped.{GrowsTo, addedWith, addedAt, groupedTo}
 
 -- # Targets
 -- keys of one run rise by their lowest numbers

@@ -15,7 +15,7 @@ use Rattle.lists.specs.Laws.Lists.{keep-append, keep-map, keep-length}
 use Rattle.lists.specs.Laws.Maps.{keep-same}
 use Rattle.model.specs.Graph.{Triple, Node}
 use Rattle.model.specs.Limits
-use Rattle.graph.specs.Keys.{keysRise, Front}
+use Rattle.keys.specs.Keys.{keysRise, Front}
 use Rattle.graph.specs.Packed.{unpackNode, unpackTriple, packTriple, unpackInstance, Fits}
 use Rattle.graph.specs.Laws.Triples.{packed-unpack}
 use Rattle.graph.specs.declared.instance.PackedInstance.{PackedInstance}

@@ -21,7 +21,7 @@ use Rattle.lists.specs.Laws.Maps.{each-same, each-if}
 use Rattle.lists.specs.Laws.OneMore.{count-last, stored-last}
 use Rattle.model.specs.Limits
 use Rattle.model.specs.Graph.{Declared, declares, ofKind}
-use Rattle.graph.specs.Keys.{Front}
+use Rattle.keys.specs.Keys.{Front}
 use Rattle.graph.specs.Packed.{bit, unpackDeclared, packDeclared, declaredRows, Snug, FreshDeclarations, DeclaredWith}
 use Rattle.graph.specs.declared.declarations.Declarations.{Declarations}
 

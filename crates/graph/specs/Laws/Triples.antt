@@ -1,25 +1,19 @@
 -- Packed triples: a key holds the three numbers of a triple, keys have the order of triples, and tell which triples are among others.
 -- By arithmetic on the places of the numbers.
-use Prim.Native.Nat.{ℕ, _+_, _*_, _/_, _%_, _^_, _<_}
+use Prim.Native.Nat.{ℕ, _/_, _%_, _^_, _<_}
 use native.Mathlib.Omega.{arith}
 use mathlib.Core.Path.{_≡_, refl, ap, ap₂, _∙_, sym}
-use mathlib.Core.Logic.{inl, ⊎-elim}
-use mathlib.Core.Bool.{Bool, true, false, _||_, false≢true}
+use mathlib.Core.Logic.{⊎-elim}
+use mathlib.Core.Bool.{Bool, true, false, _||_}
 use mathlib.Core.List.{List, [], _∷_, map}
 use lib.Dec.{eqb, ltb}
 use borrow.Author.Tests.{ltb-true, lt-ltb, le-ltb, eq-eqb, eqb-true}
 use Rattle.lists.specs.Lists.{member}
 use Rattle.lists.specs.Order.{same, before}
 use Rattle.lists.specs.Laws.Lists.{same-truth, eqb-symmetric}
-use Rattle.lists.specs.Laws.Order.{same-list, before-cons, before-total}
+use Rattle.lists.specs.Laws.Order.{same-list, before-cons, before-number, before-total}
 use Rattle.model.specs.Graph.{row, has}
 use Rattle.graph.specs.Packed.{packTriple, unpackTriple, triple}
-
-pub before-number : (a b : ℕ) → before (a ∷ []) (b ∷ []) ≡ ltb a b
-before-number a b = same-truth (before (a ∷ []) (b ∷ [])) (ltb a b) (
-  (λ h. lt-ltb a b (⊎-elim (λ l. l) (λ r. absurd (false≢true (r .1))) (before-cons a b [] [] .0 h))),
-  λ h. before-cons a b [] [] .1 (inl (ltb-true a b h)),
-)
 
 -- # Numbers in a key
 abbrev pack : ℕ → ℕ → ℕ → ℕ

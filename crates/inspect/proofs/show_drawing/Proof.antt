@@ -10,23 +10,20 @@ read-drawing-requires c κs = search needs
 enum-told : tie.Need-enum-told
 enum-told c = search needs
 
-slice-aggregate-print-number : tie.Need-slice-aggregate-print-number
-slice-aggregate-print-number c = search needs
+slice-aggregate-print-numbers : tie.Need-slice-aggregate-print-numbers
+slice-aggregate-print-numbers c = search needs
 
 count-requires : tie.Need-count-requires
 count-requires c κs = search needs
 
-print-number-requires : tie.Need-print-number-requires
-print-number-requires c κs = search needs
-
-slice-aggregate-print-number-2 : tie.Need-slice-aggregate-print-number-2
-slice-aggregate-print-number-2 c = search needs
-
 count-requires-2 : tie.Need-count-requires-2
 count-requires-2 c κs = search needs
 
-print-number-requires-2 : tie.Need-print-number-requires-2
-print-number-requires-2 c κs = search needs
+slice-aggregate-print-numbers-2 : tie.Need-slice-aggregate-print-numbers-2
+slice-aggregate-print-numbers-2 c = search needs
+
+print-numbers-requires : tie.Need-print-numbers-requires
+print-numbers-requires c κs = search needs
 
 show-saved-requires : tie.Need-show-saved-requires
 show-saved-requires c κs = (search (read-scheme, needs), search (read-instance, needs))
@@ -55,12 +52,11 @@ show-drawing-spec =
     (tie.spec
     read-drawing-requires
     enum-told
-    slice-aggregate-print-number
+    slice-aggregate-print-numbers
     count-requires
-    print-number-requires
-    slice-aggregate-print-number-2
     count-requires-2
-    print-number-requires-2
+    slice-aggregate-print-numbers-2
+    print-numbers-requires
     show-saved-requires
     slice-aggregate-write-all
     write-all-requires

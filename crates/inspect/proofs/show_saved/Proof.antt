@@ -20,24 +20,27 @@ save-requires c κs = search needs
 enum-known-length : tie.Need-enum-known-length
 enum-known-length c = search needs
 
-slice-aggregate-print-number : tie.Need-slice-aggregate-print-number
-slice-aggregate-print-number c = search needs
+slice-aggregate-print-numbers : tie.Need-slice-aggregate-print-numbers
+slice-aggregate-print-numbers c = search needs
 
-print-number-requires : tie.Need-print-number-requires
-print-number-requires c κs = search needs
+slice-aggregate-print-numbers-2 : tie.Need-slice-aggregate-print-numbers-2
+slice-aggregate-print-numbers-2 c = search needs
+
+print-numbers-requires : tie.Need-print-numbers-requires
+print-numbers-requires c κs = search needs
 
 slice-aggregate-print-rest : tie.Need-slice-aggregate-print-rest
 slice-aggregate-print-rest c = search needs
 
 print-rest-requires : tie.Need-print-rest-requires
 print-rest-requires c κs =
-    let at = c .before .before .before in
+    let at = c .before .before .before .before in
     let room = saved-room (at .before .before .before .before .save .ensures) (at .before .length .given .1) in
     omega arith
 
 save-closely-requires : tie.Need-save-closely-requires
 save-closely-requires c κs =
-    let at = c .before .before .before .before in
+    let at = c .before .before .before .before .before in
     let room = saved-room (at .before .before .before .before .save .ensures) (at .before .length .given .1) in
     (search needs, (search needs, omega arith))
 
@@ -59,8 +62,9 @@ show-saved-spec =
     slice-aggregate-save
     save-requires
     enum-known-length
-    slice-aggregate-print-number
-    print-number-requires
+    slice-aggregate-print-numbers
+    slice-aggregate-print-numbers-2
+    print-numbers-requires
     slice-aggregate-print-rest
     print-rest-requires
     save-closely-requires

@@ -102,6 +102,11 @@ module _ {A : Type 0} where
   in-take (suc n) (y ∷ xs) h = ⊎-elim List·Memᴰ·head (λ i. List·Memᴰ·tail (in-take n xs i)) (in-cons .0 h)
 
 module _ {A B : Type 0} where
+  pub map-take : (f : A → B) (n : ℕ) (xs : List A) → map f (take n xs) ≡ take n (map f xs)
+  map-take f zero xs = refl
+  map-take f (suc n) [] = refl
+  map-take f (suc n) (x ∷ xs) = ap (λ (l : List B). f x ∷ l) (map-take f n xs)
+
   pub in-map : {y : B} (f : A → B) (xs : List A) → (y ∈ map f xs) ↔ ((x : A) × (x ∈ xs) × (y ≡ f x))
   in-map f [] = ((λ h. absurd (List·Memᴰ·not-nil h)), λ h. absurd (List·Memᴰ·not-nil (h .1)))
   in-map f (a ∷ xs) = (

@@ -11,7 +11,7 @@ use borrow.Author.Tests.{lt-ltb, eq-eqb, ltb-true, ltb-false, eqb-true, eqb-fals
 use Rattle.lists.specs.Lists.{_∈_, any, keep, find, each, sequences, countFrom}
 use Rattle.lists.specs.Order.{same, before, rising, Smallest}
 use Rattle.lists.specs.Laws.Lists.{both, one-of, Truth, any-member, in-cons, in-append, in-keep, in-map, in-each, in-count}
-use Rattle.lists.specs.Laws.Lists.{fails, finds, finds-none}
+use Rattle.lists.specs.Laws.Lists.{same-truth, fails, finds, finds-none}
 
 -- # The same list
 pub same-list : (xs ys : List ℕ) → (same xs ys ≡ true) ↔ (xs ≡ ys)
@@ -36,6 +36,12 @@ lexicographic m n b = (
 pub before-cons : (x y : ℕ) (xs ys : List ℕ)
     → (before (x ∷ xs) (y ∷ ys) ≡ true) ↔ ((x < y) ⊎ ((x ≡ y) × (before xs ys ≡ true)))
 before-cons x y xs ys = lexicographic x y (before xs ys)
+
+pub before-number : (a b : ℕ) → before (a ∷ []) (b ∷ []) ≡ ltb a b
+before-number a b = same-truth (before (a ∷ []) (b ∷ [])) (ltb a b) (
+  (λ h. lt-ltb a b (⊎-elim (λ l. l) (λ r. absurd (false≢true (r .1))) (before-cons a b [] [] .0 h))),
+  λ h. before-cons a b [] [] .1 (inl (ltb-true a b h)),
+)
 
 pub before-heads : (x y : ℕ) (xs ys : List ℕ) → before (x ∷ []) (y ∷ []) ≡ true → before (x ∷ xs) (y ∷ ys) ≡ true
 before-heads x y xs ys h = before-cons x y xs ys .1 (⊎-elim inl (λ r. absurd (false≢true (r .1))) (before-cons x y [] [] .0 h))

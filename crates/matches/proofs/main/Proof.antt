@@ -1,7 +1,4 @@
 -- `matches::main` meets its contract: scheme and instance of an accepted file are stored as they should be. Assumes nothing.
-use native.Mathlib.Omega.{arith}
-use mathlib.Core.Path.{sym}
-use lib.Seq.{length-take-le}
 use Rattle.reading.specs.Laws.DrawingHeld.{read-scheme, read-instance}
 use borrow.Author.Needs.{needs}
 use Rattle.matches.proofs.main.Statement.{statement}
@@ -16,35 +13,26 @@ arg-requires c κs = search needs
 array-share-prefix-name : tie.Need-array-share-prefix-name
 array-share-prefix-name c = search needs
 
-slice-aggregate-open-read : tie.Need-slice-aggregate-open-read
-slice-aggregate-open-read c = search needs
+slice-aggregate-load : tie.Need-slice-aggregate-load
+slice-aggregate-load c = search needs
 
-open-read-requires : tie.Need-open-read-requires
-open-read-requires c κs = search needs
+slice-aggregate-load-2 : tie.Need-slice-aggregate-load-2
+slice-aggregate-load-2 c = search needs
 
-array-share-prefix-name-2 : tie.Need-array-share-prefix-name-2
-array-share-prefix-name-2 c = search needs
-
-slice-aggregate-fail : tie.Need-slice-aggregate-fail
-slice-aggregate-fail c = search needs
-
-fail-requires : tie.Need-fail-requires
-fail-requires c κs = search needs
+load-requires : tie.Need-load-requires
+load-requires c κs = search needs
 
 returns : tie.Need-returns
 returns c = search needs
 
-slice-aggregate-read-opened : tie.Need-slice-aggregate-read-opened
-slice-aggregate-read-opened c = search needs
+sub-read-drawing : tie.Need-sub-read-drawing
+sub-read-drawing c = search needs
 
-read-opened-requires : tie.Need-read-opened-requires
-read-opened-requires c κs = search needs
+part-read-drawing-start : tie.Need-part-read-drawing-start
+part-read-drawing-start c = search needs
 
-array-share-prefix-text : tie.Need-array-share-prefix-text
-array-share-prefix-text c = search needs
-
-slice-aggregate-read-drawing : tie.Need-slice-aggregate-read-drawing
-slice-aggregate-read-drawing c = sym (length-take-le _ _ (omega arith))
+part-read-drawing-end : tie.Need-part-read-drawing-end
+part-read-drawing-end c = search needs
 
 read-drawing-requires : tie.Need-read-drawing-requires
 read-drawing-requires c κs = search needs
@@ -80,16 +68,13 @@ main-spec =
     slice-aggregate-arg
     arg-requires
     array-share-prefix-name
-    slice-aggregate-open-read
-    open-read-requires
-    array-share-prefix-name-2
-    slice-aggregate-fail
-    fail-requires
+    slice-aggregate-load
+    slice-aggregate-load-2
+    load-requires
     returns
-    slice-aggregate-read-opened
-    read-opened-requires
-    array-share-prefix-text
-    slice-aggregate-read-drawing
+    sub-read-drawing
+    part-read-drawing-start
+    part-read-drawing-end
     read-drawing-requires
     enum-told
     show-rules-requires

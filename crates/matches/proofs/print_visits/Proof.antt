@@ -22,14 +22,17 @@ slice-aggregate-visit-all-2 c = search needs
 visit-all-requires : tie.Need-visit-all-requires Inv-loop μ-loop
 visit-all-requires c κs = search needs
 
-slice-aggregate-print-number : tie.Need-slice-aggregate-print-number Inv-loop μ-loop
-slice-aggregate-print-number c = search needs
+slice-aggregate-print-numbers : tie.Need-slice-aggregate-print-numbers Inv-loop μ-loop
+slice-aggregate-print-numbers c = search needs
 
-print-number-requires : tie.Need-print-number-requires Inv-loop μ-loop
-print-number-requires c κs = search needs
+slice-aggregate-print-numbers-2 : tie.Need-slice-aggregate-print-numbers-2 Inv-loop μ-loop
+slice-aggregate-print-numbers-2 c = search needs
 
-slice-aggregate-print-number-2 : tie.Need-slice-aggregate-print-number-2 Inv-loop μ-loop
-slice-aggregate-print-number-2 c = search needs
+print-numbers-requires : tie.Need-print-numbers-requires Inv-loop μ-loop
+print-numbers-requires c κs = search needs
+
+slice-aggregate-print-numbers-3 : tie.Need-slice-aggregate-print-numbers-3 Inv-loop μ-loop
+slice-aggregate-print-numbers-3 c = search needs
 
 slice-aggregate-count : tie.Need-slice-aggregate-count Inv-loop μ-loop
 slice-aggregate-count c = search needs
@@ -37,8 +40,11 @@ slice-aggregate-count c = search needs
 count-requires : tie.Need-count-requires Inv-loop μ-loop
 count-requires c κs = search needs
 
-print-number-requires-2 : tie.Need-print-number-requires-2 Inv-loop μ-loop
-print-number-requires-2 c κs = search needs
+slice-aggregate-print-numbers-4 : tie.Need-slice-aggregate-print-numbers-4 Inv-loop μ-loop
+slice-aggregate-print-numbers-4 c = search needs
+
+print-numbers-requires-2 : tie.Need-print-numbers-requires-2 Inv-loop μ-loop
+print-numbers-requires-2 c κs = search needs
 
 loop-holds : tie.Need-loop-holds Inv-loop μ-loop
 loop-holds c = search needs
@@ -55,8 +61,8 @@ slice-aggregate-visit-all-4 c = search needs
 visit-all-requires-2 : tie.Need-visit-all-requires-2 Inv-loop μ-loop
 visit-all-requires-2 c κs = search needs
 
-slice-aggregate-print-number-3 : tie.Need-slice-aggregate-print-number-3 Inv-loop μ-loop
-slice-aggregate-print-number-3 c = search needs
+slice-aggregate-print-numbers-5 : tie.Need-slice-aggregate-print-numbers-5 Inv-loop μ-loop
+slice-aggregate-print-numbers-5 c = search needs
 
 slice-aggregate-count-2 : tie.Need-slice-aggregate-count-2 Inv-loop μ-loop
 slice-aggregate-count-2 c = search needs
@@ -64,8 +70,11 @@ slice-aggregate-count-2 c = search needs
 count-requires-2 : tie.Need-count-requires-2 Inv-loop μ-loop
 count-requires-2 c κs = search needs
 
-print-number-requires-3 : tie.Need-print-number-requires-3 Inv-loop μ-loop
-print-number-requires-3 c κs = search needs
+slice-aggregate-print-numbers-6 : tie.Need-slice-aggregate-print-numbers-6 Inv-loop μ-loop
+slice-aggregate-print-numbers-6 c = search needs
+
+print-numbers-requires-3 : tie.Need-print-numbers-requires-3 Inv-loop μ-loop
+print-numbers-requires-3 c κs = search needs
 
 add-q : tie.Need-add-q Inv-loop μ-loop
 add-q c = search needs
@@ -89,21 +98,24 @@ print-visits-spec =
     slice-aggregate-visit-all
     slice-aggregate-visit-all-2
     visit-all-requires
-    slice-aggregate-print-number
-    print-number-requires
-    slice-aggregate-print-number-2
+    slice-aggregate-print-numbers
+    slice-aggregate-print-numbers-2
+    print-numbers-requires
+    slice-aggregate-print-numbers-3
     slice-aggregate-count
     count-requires
-    print-number-requires-2
+    slice-aggregate-print-numbers-4
+    print-numbers-requires-2
     loop-holds
     no-notes-requires-2
     slice-aggregate-visit-all-3
     slice-aggregate-visit-all-4
     visit-all-requires-2
-    slice-aggregate-print-number-3
+    slice-aggregate-print-numbers-5
     slice-aggregate-count-2
     count-requires-2
-    print-number-requires-3
+    slice-aggregate-print-numbers-6
+    print-numbers-requires-3
     add-q
     loop-less
     loop-again

@@ -1,15 +1,13 @@
 -- `matches::show_rule` meets its contract: an accepted rule has a pattern that is stored under the scheme of the instance. Assumes nothing.
 use Prim.Native.Nat.{ℕ}
-use native.Mathlib.Omega.{arith}
-use mathlib.Core.Path.{_≡_, sym}
+use mathlib.Core.Path.{_≡_}
 use mathlib.Core.List.{List}
-use lib.Seq.{length-take-le}
 use Rattle.model.specs.Graph.{Scheme}
 use Rattle.graph.specs.Packed.{StoredInstance}
 use Rattle.graph.specs.declared.instance.PackedInstance.{PackedInstance}
-use Rattle.reading.specs.Readers.{ReadRule}
-use Rattle.reading.specs.declared.rules.RuleRead.{RuleRead}
-use Rattle.reading.specs.declared.verdicts.Answer.the-variants.{Accepted}
+use Rattle.verdicts.specs.declared.Answer.the-variants.{Accepted}
+use Rattle.rules.specs.Readers.{ReadRule}
+use Rattle.rules.specs.declared.RuleRead.{RuleRead}
 use Rattle.matcher.specs.Matchers.{Stored}
 use borrow.Author.Needs.{needs}
 use Rattle.matches.proofs.show_rule.Statement.{statement}
@@ -19,29 +17,26 @@ stored-together : {s : Scheme} {d : PackedInstance} {text : List ℕ} {r : RuleR
     → Stored d (r .rule .pattern)
 stored-together {s = s} instance read accepts = record { scheme = s; instance = instance; pattern = read .rule accepts .pattern }
 
-open-read-requires : tie.Need-open-read-requires
-open-read-requires c κs = search needs
+slice-aggregate-load : tie.Need-slice-aggregate-load
+slice-aggregate-load c = search needs
 
-fail-requires : tie.Need-fail-requires
-fail-requires c κs = search needs
+load-requires : tie.Need-load-requires
+load-requires c κs = search needs
 
 returns : tie.Need-returns
 returns c = search needs
 
-slice-aggregate-read-opened : tie.Need-slice-aggregate-read-opened
-slice-aggregate-read-opened c = search needs
-
-read-opened-requires : tie.Need-read-opened-requires
-read-opened-requires c κs = search needs
-
 write-all-requires : tie.Need-write-all-requires
 write-all-requires c κs = search needs
 
-array-share-prefix-text : tie.Need-array-share-prefix-text
-array-share-prefix-text c = search needs
+sub-read-rule : tie.Need-sub-read-rule
+sub-read-rule c = search needs
 
-slice-aggregate-read-rule : tie.Need-slice-aggregate-read-rule
-slice-aggregate-read-rule c = sym (length-take-le _ _ (omega arith))
+part-read-rule-start : tie.Need-part-read-rule-start
+part-read-rule-start c = search needs
+
+part-read-rule-end : tie.Need-part-read-rule-end
+part-read-rule-end c = search needs
 
 read-rule-requires : tie.Need-read-rule-requires
 read-rule-requires c κs = search needs
@@ -74,14 +69,13 @@ pub show-rule-spec : {M : Type 1} → statement M
 show-rule-spec =
     tie.close
     (tie.spec
-    open-read-requires
-    fail-requires
+    slice-aggregate-load
+    load-requires
     returns
-    slice-aggregate-read-opened
-    read-opened-requires
     write-all-requires
-    array-share-prefix-text
-    slice-aggregate-read-rule
+    sub-read-rule
+    part-read-rule-start
+    part-read-rule-end
     read-rule-requires
     enum-told
     show-pattern-requires

@@ -10,8 +10,8 @@ use lib.Seq.{length-take-le, take-take, take-append-le, drop-append-le, drop-at,
 use lib.Seq.{drop-set-lt, drop-set-add, take-suc-set}
 use borrow.Rule.Slice.PartAt.{part-to-end}
 use Rattle.lists.specs.Lists.{member, _!_}
-use Rattle.graph.specs.Keys.{keysRise, joinKey, Front}
-use Rattle.graph.specs.Laws.Keys.{join-there}
+use Rattle.keys.specs.Keys.{keysRise, joinKey, Front}
+use Rattle.keys.specs.Laws.Keys.{join-there}
 use Rattle.notes.specs.Notes.{most, note, noteAll, sorted, count, noted, inOrder, Kept, Notes}
 use Rattle.notes.specs.Laws.Noting.{join-more, sorted-rises, sorted-member, sorted-snoc, note-first, note-again, note-past}
 

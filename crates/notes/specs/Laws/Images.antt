@@ -17,9 +17,9 @@ use Rattle.model.specs.Sound.{Sound}
 use Rattle.model.specs.Laws.Graph.{has-edge, stands-node, listed-instance, listed-pattern}
 use Rattle.model.specs.Laws.Matchings.{in-matchings, image-node}
 use Rattle.model.specs.Laws.Images.{in-images}
-use Rattle.graph.specs.Keys.{keysRise}
+use Rattle.keys.specs.Keys.{keysRise}
+use Rattle.keys.specs.Laws.Keys.{keep-rises}
 use Rattle.graph.specs.Packed.{unpackTriple, packTriple}
-use Rattle.graph.specs.Laws.Keys.{keep-rises}
 use Rattle.graph.specs.Laws.Triples.{packed-unpack}
 use Rattle.notes.specs.Notes.{most, noteAll, sorted}
 use Rattle.notes.specs.Visits.{edgeKey, jointKey, keysAt, visited}

@@ -12,28 +12,14 @@ use lib.Dec.{eqb, ltb}
 use borrow.Author.Tests.{ltb-true, ltb-false, lt-ltb, le-ltb, eqb-true}
 use Rattle.lists.specs.Lists.{_∈_, keep, each, member}
 use Rattle.lists.specs.Laws.Lists.{in-cons, in-append, in-keep, in-numbers, same-truth, fails, keep-length}
-use Rattle.graph.specs.Keys.{keysRise, joinKey}
-use Rattle.graph.specs.Laws.Keys.{rise-cons, keys-determined, join-rises, join-there, keep-rises}
+use Rattle.keys.specs.Keys.{keysRise, joinKey}
+use Rattle.keys.specs.Laws.Keys.{rise-cons, keys-determined, in-join, join-rises, join-there, keep-rises}
 use Rattle.notes.specs.Notes.{most, note, noteAll, sorted}
 use Rattle.notes.specs.Visits.{keysAt, visited}
 
 -- # Keys joined one after the other
 abbrev pub joinAll : List ℕ → List ℕ → List ℕ
 joinAll rise ks = foldl (λ rising k. joinKey k rising) rise ks
-
-in-join : (e : ℕ) (fs : List ℕ) (k : ℕ) → (k ∈ joinKey e fs) ↔ ((k ≡ e) ⊎ (k ∈ fs))
-unfolding joinKey
-in-join e [] k = in-cons
-in-join e (f ∷ fs) k = go (ltb e f) (eqb e f) refl (in-join e fs k)
-  where
-    go : (a b : Bool) → eqb e f ≡ b → (k ∈ joinKey e fs) ↔ ((k ≡ e) ⊎ (k ∈ fs))
-        → (k ∈ cond a (e ∷ f ∷ fs) (cond b (f ∷ fs) (f ∷ joinKey e fs))) ↔ ((k ≡ e) ⊎ (k ∈ (f ∷ fs)))
-    go true b q more = in-cons
-    go false true q more = (inr, ⊎-elim (λ h. List·Memᴰ·head (h ∙ eqb-true e f q)) (λ h. h))
-    go false false q more = (
-      (λ h. ⊎-elim (λ i. inr (List·Memᴰ·head i)) (λ i. ⊎-elim inl (λ j. inr (List·Memᴰ·tail j)) (more .0 i)) (in-cons .0 h)),
-      ⊎-elim (λ h. List·Memᴰ·tail (more .1 (inl h))) (λ h. ⊎-elim List·Memᴰ·head (λ i. List·Memᴰ·tail (more .1 (inr i))) (in-cons .0 h)),
-    )
 
 -- one more, unless it is there
 join-length : (e : ℕ) (fs : List ℕ) → (length (joinKey e fs) ≤ suc (length fs)) × ((e ∈ fs → ⊥) → length (joinKey e fs) ≡ suc (length fs))

@@ -1,7 +1,8 @@
 -- `operations::add_nodes` meets its contract: the part of the notes after the first is the keys that the walk noted. Assumes nothing.
 use borrow.Author.Needs.{needs}
-use Rattle.operations.specs.Laws.Parts.{parts-inside, parts-part, parts-few}
-use Rattle.operations.specs.Laws.Slices.{able-addable, able-class, able-arms, nodes-added}
+use Rattle.rule_notes.specs.Laws.Parts.{parts-inside, parts-part, parts-few}
+use Rattle.rule_notes.specs.Laws.Begun.{able-arms}
+use Rattle.operations.specs.Laws.Slices.{able-addable, able-class, nodes-added}
 use Rattle.operations.proofs.add_nodes.Statement.{statement}
 use Rattle.operations.proofs.add_nodes.Tie as tie
 

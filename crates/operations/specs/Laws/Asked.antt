@@ -11,15 +11,15 @@ use Rattle.model.specs.Graph.{Declared, Scheme, ofKind, isFunctional}
 use Rattle.model.specs.Operations.{Action, addNode}
 use Rattle.model.specs.Sound.{Sound, SoundRule, suits}
 use Rattle.model.specs.Laws.Graph.{ListedDeclarations, listed-scheme, listed-instance}
-use Rattle.graph.specs.Keys.{keysRise}
+use Rattle.keys.specs.Keys.{keysRise}
 use Rattle.graph.specs.Packed.{unpackInstance, unpackPattern, unpackAction, unpackArm, instanceOf, StoredInstance, StoredRule}
 use Rattle.graph.specs.Laws.Keys.{rising-triples}
 use Rattle.graph.specs.declared.instance.PackedInstance.{PackedInstance}
 use Rattle.graph.specs.declared.rule.PackedAction.{PackedAction}
 use Rattle.graph.specs.declared.rule.PackedRule.{PackedRule}
-use Rattle.index.specs.Laws.Neighbours.{nodes-rise, nodes-below}
+use Rattle.places.specs.Laws.Nodes.{nodes-rise, nodes-below}
 use Rattle.matcher.specs.Matchers.{nodesOf, edgesOf}
-use Rattle.operations.specs.Noted.{partsOf, Able}
+use Rattle.rule_notes.specs.Noted.{partsOf, Able}
 
 -- a declared number of a kind is below the limit
 kind-below : (limit : ℕ) (ds : _) → ListedDeclarations limit ds → (k n : ℕ) → ofKind k ds n ≡ true → n < limit

@@ -14,13 +14,15 @@ use Rattle.graph.specs.declared.scheme.PackedScheme.{PackedScheme}
 use Rattle.notes.specs.Notes.{count, Notes}
 use Rattle.notes.specs.Laws.Buffer.{noted-length}
 use Rattle.matcher.specs.Matchers.{Stored, VisitsAll}
-use Rattle.addition.specs.Growth.{Makes}
-use Rattle.addition.specs.declared.growth.Changed.{Changed}
+use Rattle.growth.specs.Growth.{Makes}
+use Rattle.growth.specs.declared.Changed.{Changed}
 use Rattle.operations.specs.Applies.{Applies}
-use Rattle.operations.specs.Noted.{notingOf, begun, walked, Lists, Walked, Reports}
+use Rattle.rule_notes.specs.Noted.{notingOf, begun, Lists}
+use Rattle.reports.specs.Reported.{Reports}
+use Rattle.operations.specs.Walked.{walked, Walked}
 use Rattle.operations.specs.Laws.Counted.{report-applies}
-use Rattle.operations.specs.declared.Applied.{Applied}
-use Rattle.operations.specs.declared.Numbers.{Numbers}
+use Rattle.reports.specs.declared.Applied.{Applied}
+use Rattle.rule_notes.specs.declared.Numbers.{Numbers}
 
 -- # The numbers that a walk is given
 module _ (list : List ℕ) (n : Numbers) (lists : Lists list n) (room : length (n .numbers) ≡ 5) where

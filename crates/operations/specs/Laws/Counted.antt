@@ -25,11 +25,11 @@ use Rattle.graph.specs.declared.instance.PackedInstance.{PackedInstance}
 use Rattle.graph.specs.declared.rule.PackedRule.{PackedRule}
 use Rattle.graph.specs.declared.scheme.PackedScheme.{PackedScheme}
 use Rattle.matcher.specs.Matchers.{nodesOf, edgesOf}
-use Rattle.addition.specs.Growth.{judged}
-use Rattle.addition.specs.declared.growth.Verdict.{Verdict}
-use Rattle.addition.specs.declared.growth.Verdict.the-variants.{Done, Refused}
+use Rattle.growth.specs.Growth.{judged}
+use Rattle.growth.specs.declared.Verdict.{Verdict}
+use Rattle.growth.specs.declared.Verdict.the-variants.{Done, Refused}
 use Rattle.operations.specs.Applies.{Applies}
-use Rattle.operations.specs.Noted.{countsOf, reportFor, Roomy}
+use Rattle.reports.specs.Reported.{countsOf, reportFor, Roomy}
 use Rattle.operations.specs.Laws.Asked.{rule-of}
 
 -- # One way only

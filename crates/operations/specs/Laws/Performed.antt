@@ -20,19 +20,20 @@ use Rattle.notes.specs.Visits.{keysAt}
 use Rattle.notes.specs.Laws.Noting.{noted-grows, visits-flat}
 use Rattle.notes.specs.Laws.Buffer.{noted-length}
 use Rattle.matcher.specs.Matchers.{nodesOf, edgesOf}
-use Rattle.addition.specs.Growth.{Makes}
-use Rattle.addition.specs.Served.{addedFor}
-use Rattle.addition.specs.declared.growth.Changed.{Changed}
-use Rattle.addition.specs.Joined.{SourcesIn, joinedTo}
-use Rattle.addition.specs.Laws.Turns.{node-addition-noted}
-use Rattle.addition.specs.Laws.Union.{edge-addition-noted, noted-sources}
+use Rattle.growth.specs.Growth.{Makes}
+use Rattle.node_addition.specs.Added.{addedFor}
+use Rattle.growth.specs.declared.Changed.{Changed}
+use Rattle.edge_addition.specs.Joined.{SourcesIn, joinedTo}
+use Rattle.node_addition.specs.Laws.Turns.{node-addition-noted}
+use Rattle.edge_addition.specs.Laws.Union.{edge-addition-noted, noted-sources}
 use Rattle.deletion.specs.Deleted.{withoutNodes, withoutEdges}
 use Rattle.deletion.specs.Laws.Deletions.{node-deletion-noted, node-deletion-below, edge-deletion-noted}
 use Rattle.abstraction.specs.Grouped.{groupedTo}
 use Rattle.abstraction.specs.Laws.Leading.{abstraction-noted, images-below, images-few}
-use Rattle.operations.specs.Noted.{partsOf, notingOf, begun, walked, Able, Walked}
+use Rattle.rule_notes.specs.Noted.{partsOf, notingOf, begun, Able}
+use Rattle.operations.specs.Walked.{walked, Walked}
 use Rattle.operations.specs.Laws.Asked.{rule-of, sound-keys, able}
-use Rattle.operations.specs.Laws.Parts.{OtherCode, other-nothing}
+use Rattle.rule_notes.specs.Laws.Parts.{OtherCode, other-nothing}
 
 module _ {s : Scheme} {d : PackedInstance} {r : PackedRule} (h : StoredInstance s d) (k : StoredRule s r) where
   abbrev outcome : Outcome Instance

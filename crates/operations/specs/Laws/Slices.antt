@@ -6,26 +6,24 @@ use mathlib.Core.Path.{_≡_, refl, sym, ap, _∙_}
 use mathlib.Core.Bool.{true}
 use mathlib.Core.List.{List, [], _∷_}
 use lib.ListN.{length, take, drop}
-use lib.Seq.{length-take-le, take-nil, drop-drop}
-use borrow.Author.Tests.{eq-eqb, ne-eqb}
+use lib.Seq.{take-nil, drop-drop}
 use Rattle.lists.specs.Lists.{Below}
 use Rattle.model.specs.Limits
 use Rattle.model.specs.Graph.{Scheme, Instance}
 use Rattle.model.specs.Refusals.{accepted}
-use Rattle.graph.specs.Keys.{keysRise}
+use Rattle.keys.specs.Keys.{keysRise}
 use Rattle.graph.specs.Packed.{unpackInstance}
 use Rattle.graph.specs.declared.instance.PackedInstance.{PackedInstance}
 use Rattle.graph.specs.declared.rule.PackedAction.{PackedAction}
-use Rattle.notes.specs.Notes.{count, noted, noteAll, inOrder, sorted, Kept, Notes}
+use Rattle.notes.specs.Notes.{count, noted, inOrder, sorted, Kept}
 use Rattle.notes.specs.Laws.Noting.{sorted-rises}
-use Rattle.matcher.specs.Matchers.{nodesOf, edgesOf}
 use Rattle.deletion.specs.Deleted.{withoutNodes, withoutEdges, WithoutNodes, WithoutEdges}
-use Rattle.addition.specs.Growth.{Makes, Addable}
-use Rattle.addition.specs.Joined.{SourcesIn, joinedTo}
-use Rattle.addition.specs.Served.{servedKeys, addedFor}
+use Rattle.growth.specs.Growth.{Makes, Addable}
+use Rattle.edge_addition.specs.Joined.{SourcesIn, joinedTo}
+use Rattle.node_addition.specs.Added.{addedFor}
 use Rattle.abstraction.specs.Grouped.{groupedTo}
-use Rattle.addition.specs.declared.growth.Changed.{Changed}
-use Rattle.operations.specs.Noted.{partsOf, begun, Able}
+use Rattle.growth.specs.declared.Changed.{Changed}
+use Rattle.rule_notes.specs.Noted.{Able}
 
 -- # The keys as they rise
 abbrev pub risingPart : (notes : List ℕ) → (end : ℕ) → List ℕ
@@ -90,20 +88,6 @@ module _ (notes : List ℕ) (begun end : ℕ) (kept : Kept notes) (all : end ≡
 
 -- # What is asked
 module _ {d : PackedInstance} {a : PackedAction} (able : Able d a) where
-  module _ (room : length (d .nodes) ≡ Limits.nodes) where
-    pub able-nodes : d .order ≤ length (d .nodes)
-    able-nodes = omega (arith, able .fits .fewNodes)
-
-    pub able-order : d .order ≡ length (nodesOf d)
-    able-order = sym (length-take-le (d .order) (d .nodes) able-nodes)
-
-  module _ (room : length (d .edges) ≡ Limits.edges) where
-    pub able-edges : d .size ≤ length (d .edges)
-    able-edges = omega (arith, able .fits .fewEdges)
-
-    pub able-size : d .size ≡ length (edgesOf d)
-    able-size = sym (length-take-le (d .size) (d .edges) able-edges)
-
   pub able-addable : length (d .nodes) ≡ Limits.nodes → length (d .edges) ≡ Limits.edges → Addable d
   able-addable n e = record {
     nodeRoom = n;
@@ -114,24 +98,5 @@ module _ {d : PackedInstance} {a : PackedAction} (able : Able d a) where
     nodesBelow = able .nodesBelow;
   }
 
-  module _ (code : a .code ≡ 1) where
-    pub able-class : a .head < 2 ^ 6
-    able-class = able .class code
-
-    pub able-arms : Below (2 ^ 22) (partsOf a)
-    able-arms = able .arms code
-
--- # What is noted first
-module _ (d : PackedInstance) (a : PackedAction) (before after : List ℕ) (none : Notes [] before) where
-  pub begun-served : a .code ≡ 1 → Notes (noteAll (noted before) (servedKeys (a .head) (partsOf a) (edgesOf d) (nodesOf d))) after
-      → Notes (begun d a) after
-  unfolding begun
-  begun-served e n = rw (eq-eqb (a .code) 1 e, ← none .holds) n
-
-  pub begun-edges : a .code ≡ 2 → Notes (noteAll (noted before) (edgesOf d)) after → Notes (begun d a) after
-  unfolding begun
-  begun-edges e n = rw (ne-eqb (a .code) 1 (λ f. omega arith), eq-eqb (a .code) 2 e, ← none .holds) n
-
-  pub begun-nothing : (a .code ≡ 1 → ⊥) → (a .code ≡ 2 → ⊥) → Notes (begun d a) before
-  unfolding begun
-  begun-nothing f g = rw (ne-eqb (a .code) 1 f, ne-eqb (a .code) 2 g) none
+  pub able-class : a .code ≡ 1 → a .head < 2 ^ 6
+  able-class code = able .class code

@@ -12,22 +12,23 @@ use Rattle.model.specs.Refusals.{refused}
 use Rattle.model.specs.Files.DrawingFile.{drawingFormat, readDrawing}
 use Rattle.model.specs.declared.Refusal.{Refusal}
 use Rattle.model.specs.declared.Refusal.the-variants.{Malformed}
-use Rattle.text.specs.Forms.{firstRuleKind}
-use Rattle.text.specs.Lines.{drawingKey, drawingLine, Tabled, FreshLast}
+use Rattle.forms.specs.Forms.{firstRuleKind, drawingKey}
+use Rattle.text.specs.Lines.{drawingLine, Tabled, FreshLast}
 use Rattle.text.specs.declared.lines.Line.{Line}
 use Rattle.text.specs.declared.lines.Last.{Last}
 use Rattle.graph.specs.Packed.{unpackTriple, unpackNode, unpackScheme, unpackInstance, StoredScheme, StoredInstance}
-use Rattle.reading.specs.Readers.{outcome}
-use Rattle.reading.specs.NextLine.{LineAt, NextDrawingLine}
-use Rattle.reading.specs.declared.lines.Next.{Next}
-use Rattle.reading.specs.declared.lines.Next.the-variants as the-next
-use Rattle.reading.specs.declared.verdicts.Verdict.{Verdict}
-use Rattle.reading.specs.Drawing.{drawingVerdict, schemeHeld, instanceHeld, Fits, Held, FreshStanding, Coming, Room, KeptLine, madeDrawing}
-use Rattle.reading.specs.Readers.{contents}
-use Rattle.reading.specs.Readers.{ReadDrawing}
-use Rattle.reading.specs.declared.verdicts.Verdict.the-variants.{Passes, Fails}
-use Rattle.reading.specs.declared.verdicts.Answer.the-variants.{Accepted, Refused}
-use Rattle.reading.specs.declared.drawing.Standing.{Standing}
+use Rattle.verdicts.specs.Verdicts.{outcome}
+use Rattle.verdicts.specs.NextLine.{LineAt, NextDrawingLine}
+use Rattle.verdicts.specs.declared.lines.Next.{Next}
+use Rattle.verdicts.specs.declared.lines.Next.the-variants as the-next
+use Rattle.verdicts.specs.declared.Verdict.{Verdict}
+use Rattle.verdicts.specs.declared.Verdict.the-variants.{Passes, Fails}
+use Rattle.verdicts.specs.declared.Answer.the-variants.{Accepted, Refused}
+use Rattle.standing.specs.Held.{schemeHeld, instanceHeld, Fits, Held, FreshStanding, Room, KeptLine}
+use Rattle.drawing_lines.specs.DrawingLines.{drawingVerdict, Coming}
+use Rattle.reading.specs.Drawing.{madeDrawing}
+use Rattle.reading.specs.Readers.{contents, ReadDrawing}
+use Rattle.standing.specs.declared.Standing.{Standing}
 use Rattle.reading.specs.declared.drawing.DrawingRead.{DrawingRead}
 use Rattle.reading.specs.Laws.DrawingReached.{Reached, RoomFor, passing-room, reached-none, reached-next, reached-end}
 use Rattle.reading.specs.Laws.DrawingReached.{reached-sound, triples-rise, numbers-rise, out-of-form-refused, failing-refused}

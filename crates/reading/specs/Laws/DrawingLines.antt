@@ -25,14 +25,15 @@ use Rattle.model.specs.Laws.Lines.{LineInForm, textOf, Readable, read-iff}
 use Rattle.model.specs.Laws.Passing.{Passing, numbers-append}
 use Rattle.model.specs.Laws.DrawingFiles.{drawing-regular, contentsIn, rows-in}
 use Rattle.model.specs.Laws.SoundFiles.{accepted-is-sound}
-use Rattle.text.specs.Forms.{drawingKind}
+use Rattle.forms.specs.Forms.{drawingKind}
 use Rattle.graph.specs.Packed.{tripleRooms, nodeRooms, declaredRooms, unpackTriple, unpackNode}
 use Rattle.graph.specs.Laws.Fields.{triple-fields, node-fields, declared-fields}
-use Rattle.reading.specs.Verdicts.{verdict, lastShares}
-use Rattle.reading.specs.Drawing.{mayChecks, nodeChecks, edgeChecks, lineChecks, linesAbove, schemeWith, instanceWith}
-use Rattle.reading.specs.Laws.Verdicts.{verdictOf, Agree, agree-same, verdict-agrees}
-use Rattle.reading.specs.Laws.Edges.{edge-conforms, node-conforms}
-use Rattle.reading.specs.Laws.InTurn.{none-later, rows-rise-with}
+use Rattle.verdicts.specs.Verdicts.{verdict, lastShares}
+use Rattle.verdicts.specs.Laws.Verdicts.{verdictOf, Agree, agree-same, verdict-agrees}
+use Rattle.verdicts.specs.Laws.Edges.{edge-conforms, node-conforms}
+use Rattle.verdicts.specs.Laws.InTurn.{none-later, rows-rise-with}
+use Rattle.standing.specs.Held.{schemeWith, instanceWith}
+use Rattle.drawing_lines.specs.DrawingLines.{mayChecks, nodeChecks, edgeChecks, lineChecks, linesAbove}
 
 -- # A row and its numbers
 row-triple : (r : ℕ) → tripleOf (unrank tripleRooms r) ≡ unpackTriple r

@@ -26,20 +26,21 @@ use Rattle.model.specs.Laws.Sound.{well-formed}
 use Rattle.model.specs.Laws.DrawingFiles.{contentsIn}
 use Rattle.model.specs.declared.Refusal.{Refusal}
 use Rattle.model.specs.declared.Refusal.the-variants.{Malformed}
-use Rattle.text.specs.Forms.{firstRuleKind}
-use Rattle.text.specs.Lines.{drawingKey, drawingLine, Tabled, FreshLast}
-use Rattle.text.specs.Laws.Kinds.{kind-roomy, drawing-kind}
+use Rattle.forms.specs.Forms.{firstRuleKind, drawingKey}
+use Rattle.text.specs.Lines.{drawingLine, Tabled, FreshLast}
+use Rattle.forms.specs.Laws.Kinds.{kind-roomy, drawing-kind}
 use Rattle.text.specs.Laws.Lines.{drawing-follows, follows-above}
 use Rattle.text.specs.declared.lines.Line.{Line as PackedLine}
 use Rattle.text.specs.declared.lines.Last.{Last}
 use Rattle.graph.specs.Packed.{unpackTriple, unpackNode}
-use Rattle.reading.specs.Verdicts.{verdict}
-use Rattle.reading.specs.NextLine.{LineAt, NoLineAt}
-use Rattle.reading.specs.Drawing.{drawingVerdict, lineChecks, linesAbove, schemeWith, instanceWith}
-use Rattle.reading.specs.declared.verdicts.Verdict.{Verdict}
-use Rattle.reading.specs.declared.verdicts.Verdict.the-variants.{Passes, Fails}
-use Rattle.reading.specs.Laws.Verdicts.{verdictOf}
-use Rattle.reading.specs.Laws.LineByLine.{Upto, upto-none, upto-next, out-of-form-read, failing-line-read, whole-read}
+use Rattle.verdicts.specs.Verdicts.{verdict}
+use Rattle.verdicts.specs.NextLine.{LineAt, NoLineAt}
+use Rattle.verdicts.specs.declared.Verdict.{Verdict}
+use Rattle.verdicts.specs.declared.Verdict.the-variants.{Passes, Fails}
+use Rattle.verdicts.specs.Laws.Verdicts.{verdictOf}
+use Rattle.verdicts.specs.Laws.LineByLine.{Upto, upto-none, upto-next, out-of-form-read, failing-line-read, whole-read}
+use Rattle.standing.specs.Held.{schemeWith, instanceWith}
+use Rattle.drawing_lines.specs.DrawingLines.{drawingVerdict, lineChecks, linesAbove}
 use Rattle.reading.specs.Laws.DrawingLines.{rowLine, passing-sound, scheme-with, instance-with, line-verdict}
 
 -- the text is read up to a place

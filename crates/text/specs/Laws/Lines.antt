@@ -18,12 +18,12 @@ use Rattle.lists.specs.Laws.Text.{pieces-parted}
 use Rattle.model.specs.Files.{Line, Form, Format, rises, follows, lineOf, linesOf}
 use Rattle.model.specs.Files.DrawingFile.{drawingForm}
 use Rattle.model.specs.Files.RuleText.{ruleForm}
-use Rattle.text.specs.Scan.{upTo}
-use Rattle.text.specs.Forms.{firstRuleKind, kindCount, kindAt, divisor, packedForm}
+use Rattle.numerals.specs.Scan.{upTo}
+use Rattle.forms.specs.Forms.{firstRuleKind, kindCount, kindAt, divisor, packedForm}
 use Rattle.text.specs.Lines.{drawingLine, ruleLine, Tabled, afterLine, followsLast}
-use Rattle.text.specs.Laws.Kinds.{drawing-form, rule-form, drawing-turn, rule-turn}
+use Rattle.forms.specs.Laws.Kinds.{drawing-form, rule-form, drawing-turn, rule-turn}
 use Rattle.text.specs.Laws.Rows.{next-piece, last-piece}
-use Rattle.text.specs.declared.forms.Form.{Form as PackedForm}
+use Rattle.forms.specs.declared.Form.{Form as PackedForm}
 use Rattle.text.specs.declared.lines.Line.{Line as PackedLine}
 use Rattle.text.specs.declared.lines.Last.{Last}
 

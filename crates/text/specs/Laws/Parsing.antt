@@ -27,16 +27,17 @@ use Rattle.model.specs.Files.{Line, Format, inForm, lineOf}
 use Rattle.model.specs.Files.DrawingFile.{drawingFormat}
 use Rattle.model.specs.Files.RuleText.{ruleFormat}
 use Rattle.model.specs.Laws.Lines.{line-spelled}
-use Rattle.text.specs.Scan.{upTo}
-use Rattle.text.specs.Forms.{firstRuleKind, kindCount, kindAt, keyNumber, packedForm}
-use Rattle.text.specs.Lines.{drawingKey, ruleKey, rowNumbers, Tabled, tableFormat, parsed, lineIn, rowIn}
+use Rattle.numerals.specs.Scan.{upTo}
+use Rattle.forms.specs.Forms.{firstRuleKind, kindCount, kindAt, keyNumber, packedForm, drawingKey, ruleKey}
+use Rattle.text.specs.Lines.{rowNumbers, Tabled, tableFormat, parsed, lineIn, rowIn}
 use Rattle.text.specs.Lines.{drawingParsed, ruleParsed, DrawingParsed, RuleParsed}
-use Rattle.text.specs.Laws.Scan.{Bytes, bytes-take, upTo-bound, pieces-up-to, pieces-whole, key-same}
-use Rattle.text.specs.Laws.Kinds.{kind-roomy, kind-spelled, keys-apart, drawing-form, rule-form}
+use Rattle.forms.specs.Laws.KeyNumbers.{Bytes, bytes-take, key-same}
+use Rattle.numerals.specs.Laws.Scan.{upTo-bound, pieces-up-to, pieces-whole}
+use Rattle.forms.specs.Laws.Kinds.{kind-roomy, kind-spelled, keys-apart, drawing-form, rule-form}
 use Rattle.text.specs.Laws.Rows.{tested-is, tested-not}
-use Rattle.text.specs.declared.forms.Form.{Form as PackedForm}
-use Rattle.text.specs.declared.numerals.Numeral.{Numeral}
-use Rattle.text.specs.declared.numerals.Numeral.the-variants as numeral
+use Rattle.forms.specs.declared.Form.{Form as PackedForm}
+use Rattle.numerals.specs.declared.scan.Numeral.{Numeral}
+use Rattle.numerals.specs.declared.scan.Numeral.the-variants as numeral
 use Rattle.text.specs.declared.lines.Line.{Line as PackedLine}
 use Rattle.text.specs.declared.lines.Parsed.{Parsed}
 use Rattle.text.specs.declared.lines.Parsed.the-variants.{Read, Malformed}

@@ -17,14 +17,14 @@ use Rattle.lists.specs.Radix.{product, rank}
 use Rattle.lists.specs.Laws.Lists.{both}
 use Rattle.lists.specs.Laws.Radix.{product-left}
 use Rattle.model.specs.Files.{inForm}
-use Rattle.text.specs.Scan.{upTo, numeralBelow}
-use Rattle.text.specs.Forms.{kindCount, kindAt, packedForm}
+use Rattle.numerals.specs.Scan.{upTo, numeralBelow}
+use Rattle.forms.specs.Forms.{kindCount, kindAt, packedForm}
 use Rattle.text.specs.Lines.{rowIn}
-use Rattle.text.specs.Laws.Scan.{upTo-bound, pieces-up-to, pieces-whole}
-use Rattle.text.specs.Laws.Kinds.{kind-roomy, padded-at, form-room}
-use Rattle.text.specs.declared.forms.Form.{Form as PackedForm}
-use Rattle.text.specs.declared.numerals.Numeral.{Numeral}
-use Rattle.text.specs.declared.numerals.Numeral.the-variants.{Is, Malformed}
+use Rattle.numerals.specs.Laws.Scan.{upTo-bound, pieces-up-to, pieces-whole}
+use Rattle.forms.specs.Laws.Kinds.{kind-roomy, padded-at, form-room}
+use Rattle.forms.specs.declared.Form.{Form as PackedForm}
+use Rattle.numerals.specs.declared.scan.Numeral.{Numeral}
+use Rattle.numerals.specs.declared.scan.Numeral.the-variants.{Is, Malformed}
 
 -- the row whose numbers so far make `row`, where these limits, rooms and pieces are left
 unfoldable pub rowLeft : (row : ℕ) (below rooms : List ℕ) → List (List ℕ) → Numeral

@@ -11,8 +11,8 @@ use Rattle.lists.specs.Buffers.{Writes, WritesFrom}
 use Rattle.lists.specs.Laws.Buffers.{Unwritten, unwritten-all, part-inside, part-fits, unwritten-part, written-on, unwritten-none, unwritten-from, written-from}
 use Rattle.model.specs.Meaning.{mostOfDrawing}
 use Rattle.model.specs.Files.DrawingFile.{class=, name=, may=, node=, edge=}
-use Rattle.text.specs.Forms.{kindCount}
-use Rattle.text.specs.Written.{rowText}
+use Rattle.forms.specs.Forms.{kindCount}
+use Rattle.printing.specs.Written.{rowText}
 use Rattle.writing.specs.Lines.{rowsText, linesOf, fileOfRows}
 
 -- # The lines of one kind

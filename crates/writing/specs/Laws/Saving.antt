@@ -19,8 +19,8 @@ use Rattle.model.specs.declared.Refusal.the-variants.{BufferShort}
 use Rattle.model.specs.declared.SaveAnswer.{SaveAnswer}
 use Rattle.model.specs.declared.SaveAnswer.the-variants.{Saved, Refused}
 use Rattle.model.specs.Meaning.{mostOfDrawing}
+use Rattle.keys.specs.Keys.{Front}
 use Rattle.graph.specs.Packed.{declaredRows, unpackScheme, unpackInstance, StoredInstance}
-use Rattle.graph.specs.Keys.{Front}
 use Rattle.graph.specs.declared.scheme.PackedScheme.{PackedScheme}
 use Rattle.graph.specs.declared.instance.PackedInstance.{PackedInstance}
 use Rattle.writing.specs.Writers.{Saves, SavesText}

@@ -1,6 +1,6 @@
 -- `text::lines::crowded` meets its contract: 0 stands for a kind that nothing limits, and no kind is limited to none. Assumes nothing.
 use borrow.Author.Needs.{needs}
-use Rattle.text.specs.Laws.Kinds.{crowded-unlimited, crowded-limited}
+use Rattle.forms.specs.Laws.Kinds.{crowded-unlimited, crowded-limited}
 use Rattle.text.proofs.lines.crowded.Statement.{statement}
 use Rattle.text.proofs.lines.crowded.Tie as tie
 

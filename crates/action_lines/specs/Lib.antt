@@ -1,0 +1,2 @@
+-- What a line of an action must meet.
+pub mod ActionLines

@@ -1,0 +1,3 @@
+-- Laws of edge addition, by subject.
+pub mod Joining
+pub mod Union

@@ -1,0 +1,3 @@
+-- Laws of keys and of the kinds of line.
+pub mod KeyNumbers
+pub mod Kinds

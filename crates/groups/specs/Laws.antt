@@ -1,0 +1,2 @@
+-- Laws of groups.
+pub mod Grouping

@@ -1,0 +1,3 @@
+-- Groups of images, and laws of them.
+pub mod Groups
+pub mod Laws

@@ -1,0 +1,2 @@
+-- Laws of growth.
+pub mod Growing

@@ -1,0 +1,3 @@
+-- What a new node makes of an instance, and laws of it.
+pub mod Growth
+pub mod Laws

@@ -1,0 +1,2 @@
+-- Laws of rising keys.
+pub mod Keys

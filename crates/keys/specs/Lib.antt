@@ -1,0 +1,3 @@
+-- Rising keys, and laws of them.
+pub mod Keys
+pub mod Laws

@@ -1,0 +1,3 @@
+-- What the code looks for in bytes, and laws of it.
+pub mod Scan
+pub mod Laws

@@ -1,0 +1,3 @@
+-- A line as it is written, and laws of it.
+pub mod Written
+pub mod Laws

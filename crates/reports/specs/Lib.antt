@@ -1,0 +1,3 @@
+-- What is reported, and laws of it.
+pub mod Reported
+pub mod Laws

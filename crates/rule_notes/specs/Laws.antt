@@ -1,0 +1,3 @@
+-- Laws of what a rule notes, by subject.
+pub mod Parts
+pub mod Begun

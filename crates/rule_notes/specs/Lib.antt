@@ -1,0 +1,3 @@
+-- What a rule notes, and laws of it.
+pub mod Noted
+pub mod Laws

@@ -1,0 +1,3 @@
+-- What a search finds, and laws.
+pub mod Seeks
+pub mod Laws

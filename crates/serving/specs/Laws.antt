@@ -1,0 +1,2 @@
+-- Laws of what nodes serve.
+pub mod Serving

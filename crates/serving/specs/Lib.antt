@@ -1,0 +1,3 @@
+-- What nodes serve, and laws of it.
+pub mod Served
+pub mod Laws

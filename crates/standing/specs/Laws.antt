@@ -1,0 +1,2 @@
+-- Laws of what stands.
+pub mod Kept

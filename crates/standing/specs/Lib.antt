@@ -1,0 +1,3 @@
+-- What stands, and laws of it.
+pub mod Held
+pub mod Laws

@@ -1,0 +1,2 @@
+-- Laws of visits, by subject.
+pub mod Visits

@@ -1,0 +1,3 @@
+-- What a visit is given, and laws.
+pub mod Visiting
+pub mod Laws

@@ -1,0 +1,2 @@
+-- Laws of the walk, by subject.
+pub mod Walk

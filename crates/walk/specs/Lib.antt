@@ -1,0 +1,3 @@
+-- What a walk leaves, and laws.
+pub mod Walks
+pub mod Laws
