@@ -1,0 +1,3 @@
+-- What the functions behind the calls leave, and laws.
+pub mod Within
+pub mod Laws

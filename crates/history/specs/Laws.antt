@@ -1,0 +1,2 @@
+-- Laws of the undo history.
+pub mod Copies

@@ -1,0 +1,3 @@
+-- Laws of the calls that only read the session, by call.
+pub mod Listing
+pub mod Saving

@@ -1,0 +1,2 @@
+-- Laws of the calls that only read the session.
+pub mod Laws

@@ -1,0 +1,3 @@
+-- Laws of the session, by subject.
+pub mod Steps
+pub mod Fresh
