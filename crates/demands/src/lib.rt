@@ -1,0 +1,1 @@
+// The three demands on the session: theorems alone, in specs/.
