@@ -1,0 +1,3 @@
+-- Laws of lists of calls, by subject.
+pub mod Answers
+pub mod Entries
