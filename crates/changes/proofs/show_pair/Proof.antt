@@ -1,4 +1,4 @@
--- `changes::show_pair` meets its contract: what is read of a file is not longer than the buffer. Assumes nothing.
+-- `changes::show_pair` meets its contract: what is read of a file is not longer than its buffer. Assumes nothing.
 use native.Mathlib.Omega.{arith}
 use mathlib.Core.Path.{sym}
 use lib.Seq.{length-take-le}
@@ -12,53 +12,83 @@ slice-aggregate-arg c = search needs
 arg-requires : tie.Need-arg-requires
 arg-requires c κs = search needs
 
-array-share-prefix-name : tie.Need-array-share-prefix-name
-array-share-prefix-name c = search needs
-
-slice-aggregate-read-named : tie.Need-slice-aggregate-read-named
-slice-aggregate-read-named c = search needs
-
-slice-aggregate-read-named-2 : tie.Need-slice-aggregate-read-named-2
-slice-aggregate-read-named-2 c = search needs
-
-read-named-requires : tie.Need-read-named-requires
-read-named-requires c κs = search needs
-
 slice-aggregate-arg-2 : tie.Need-slice-aggregate-arg-2
 slice-aggregate-arg-2 c = search needs
 
 arg-requires-2 : tie.Need-arg-requires-2
 arg-requires-2 c κs = search needs
 
-array-share-prefix-name-2 : tie.Need-array-share-prefix-name-2
-array-share-prefix-name-2 c = search needs
+job-room-requires : tie.Need-job-room-requires
+job-room-requires c κs = search needs
 
-slice-aggregate-read-named-3 : tie.Need-slice-aggregate-read-named-3
-slice-aggregate-read-named-3 c = search needs
+array-share-prefix-job-name : tie.Need-array-share-prefix-job-name
+array-share-prefix-job-name c = search needs
 
-slice-aggregate-read-named-4 : tie.Need-slice-aggregate-read-named-4
-slice-aggregate-read-named-4 c = search needs
+slice-aggregate-load : tie.Need-slice-aggregate-load
+slice-aggregate-load c = search needs
 
-read-named-requires-2 : tie.Need-read-named-requires-2
-read-named-requires-2 c κs = search needs
+slice-aggregate-load-2 : tie.Need-slice-aggregate-load-2
+slice-aggregate-load-2 c = search needs
 
-array-share-prefix-file : tie.Need-array-share-prefix-file
-array-share-prefix-file c = search needs
+load-requires : tie.Need-load-requires
+load-requires c κs = search needs
 
-slice-aggregate-show-drawing : tie.Need-slice-aggregate-show-drawing
-slice-aggregate-show-drawing c = sym (length-take-le _ _ (omega arith))
+rule-room-requires : tie.Need-rule-room-requires
+rule-room-requires c κs = search needs
 
-array-share-prefix-text : tie.Need-array-share-prefix-text
-array-share-prefix-text c = search needs
+array-share-prefix-rule-name : tie.Need-array-share-prefix-rule-name
+array-share-prefix-rule-name c = search needs
 
-slice-aggregate-show-drawing-2 : tie.Need-slice-aggregate-show-drawing-2
-slice-aggregate-show-drawing-2 c = sym (length-take-le _ _ (omega arith))
+slice-aggregate-load-3 : tie.Need-slice-aggregate-load-3
+slice-aggregate-load-3 c = search needs
 
-show-drawing-requires : tie.Need-show-drawing-requires
-show-drawing-requires c κs = search needs
+slice-aggregate-load-4 : tie.Need-slice-aggregate-load-4
+slice-aggregate-load-4 c = search needs
+
+load-requires-2 : tie.Need-load-requires-2
+load-requires-2 c κs = search needs
 
 returns : tie.Need-returns
 returns c = search needs
+
+returns-2 : tie.Need-returns-2
+returns-2 c = search needs
+
+array-share-prefix-job-name-2 : tie.Need-array-share-prefix-job-name-2
+array-share-prefix-job-name-2 c = search needs
+
+slice-aggregate-print-name : tie.Need-slice-aggregate-print-name
+slice-aggregate-print-name c = search needs
+
+print-name-requires : tie.Need-print-name-requires
+print-name-requires c κs = search needs
+
+array-share-prefix-rule-name-2 : tie.Need-array-share-prefix-rule-name-2
+array-share-prefix-rule-name-2 c = search needs
+
+slice-aggregate-print-name-2 : tie.Need-slice-aggregate-print-name-2
+slice-aggregate-print-name-2 c = search needs
+
+print-name-requires-2 : tie.Need-print-name-requires-2
+print-name-requires-2 c κs = search needs
+
+array-share-prefix-job : tie.Need-array-share-prefix-job
+array-share-prefix-job c = search needs
+
+slice-aggregate-print-trial : tie.Need-slice-aggregate-print-trial
+slice-aggregate-print-trial c = sym (length-take-le _ _ (omega arith))
+
+array-share-prefix-rule : tie.Need-array-share-prefix-rule
+array-share-prefix-rule c = search needs
+
+slice-aggregate-print-trial-2 : tie.Need-slice-aggregate-print-trial-2
+slice-aggregate-print-trial-2 c = sym (length-take-le _ _ (omega arith))
+
+print-trial-requires : tie.Need-print-trial-requires
+print-trial-requires c κs = search needs
+
+returns-3 : tie.Need-returns-3
+returns-3 c = search needs
 
 pub show-pair-spec : {M : Type 1} → statement M
 show-pair-spec =
@@ -66,19 +96,29 @@ show-pair-spec =
     (tie.spec
     slice-aggregate-arg
     arg-requires
-    array-share-prefix-name
-    slice-aggregate-read-named
-    slice-aggregate-read-named-2
-    read-named-requires
     slice-aggregate-arg-2
     arg-requires-2
-    array-share-prefix-name-2
-    slice-aggregate-read-named-3
-    slice-aggregate-read-named-4
-    read-named-requires-2
-    array-share-prefix-file
-    slice-aggregate-show-drawing
-    array-share-prefix-text
-    slice-aggregate-show-drawing-2
-    show-drawing-requires
-    returns)
+    job-room-requires
+    array-share-prefix-job-name
+    slice-aggregate-load
+    slice-aggregate-load-2
+    load-requires
+    rule-room-requires
+    array-share-prefix-rule-name
+    slice-aggregate-load-3
+    slice-aggregate-load-4
+    load-requires-2
+    returns
+    returns-2
+    array-share-prefix-job-name-2
+    slice-aggregate-print-name
+    print-name-requires
+    array-share-prefix-rule-name-2
+    slice-aggregate-print-name-2
+    print-name-requires-2
+    array-share-prefix-job
+    slice-aggregate-print-trial
+    array-share-prefix-rule
+    slice-aggregate-print-trial-2
+    print-trial-requires
+    returns-3)
