@@ -1,0 +1,2 @@
+-- What the entries of a script keep to.
+pub mod Entries
