@@ -22,6 +22,7 @@ use rules::read_rule;
 use session::Session;
 use verdicts::Answer;
 
+// What each call leaves: the answer, and the session.
 pub struct OpenLeft {
     pub answer: OpenAnswer,
     pub session: Session,
