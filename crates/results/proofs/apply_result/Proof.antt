@@ -1,0 +1,34 @@
+-- `results::apply_result` meets its contract, case by case. Assumes nothing.
+use borrow.Author.Needs.{needs}
+use Rattle.results.specs.Laws.Cases.{applied-case, apply-refused}
+use Rattle.results.proofs.apply_result.Statement.{statement}
+use Rattle.results.proofs.apply_result.Tie as tie
+
+enum-known-answer : tie.Need-enum-known-answer
+enum-known-answer c = search needs
+
+enum-known-answer-2 : tie.Need-enum-known-answer-2
+enum-known-answer-2 c = search needs
+
+number-requires : tie.Need-number-requires
+number-requires c κs = search needs
+
+returned-requires : tie.Need-returned-requires
+returned-requires c κs = search needs
+
+returns : tie.Need-returns
+returns c = search (applied-case, needs)
+
+returns-2 : tie.Need-returns-2
+returns-2 c = search (apply-refused, needs)
+
+pub apply-result-spec : {M : Type 1} → statement M
+apply-result-spec =
+    tie.close
+    (tie.spec
+    enum-known-answer
+    enum-known-answer-2
+    number-requires
+    returned-requires
+    returns
+    returns-2)

@@ -1,0 +1,2 @@
+-- Laws of results.
+pub mod Cases

@@ -1,0 +1,3 @@
+-- Answers as structs of numbers, and laws.
+pub mod Results
+pub mod Laws
