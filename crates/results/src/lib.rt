@@ -56,6 +56,16 @@ pub struct SaveResult {
     pub length: u64,
 }
 
+// The row of the table of refusals.
+fn refused_step(refusal: Refusal) -> StepResult
+    ensures { λ r. ⌜ r ≡ refusedStep refusal ⌝ }
+{
+    StepResult {
+        refusal: table::number(refusal),
+        returned: table::returned(refusal),
+    }
+}
+
 pub fn open_result(answer: OpenAnswer) -> OpenResult
     ensures { λ r. ⌜ r ≡ openResult answer ⌝ }
 {
@@ -66,12 +76,15 @@ pub fn open_result(answer: OpenAnswer) -> OpenResult
             classes,
             names,
         },
-        OpenAnswer::Refused(refusal) => OpenResult {
-            refusal: table::number(refusal),
-            returned: table::returned(refusal),
-            classes: 0,
-            names: 0,
-        },
+        OpenAnswer::Refused(refusal) => {
+            let row = refused_step(refusal);
+            OpenResult {
+                refusal: row.refusal,
+                returned: row.returned,
+                classes: 0,
+                names: 0,
+            }
+        }
     }
 }
 
@@ -92,24 +105,18 @@ pub fn apply_result(answer: ApplyAnswer) -> ApplyResult
                 edges_removed: removed.edges,
             }
         }
-        ApplyAnswer::Refused(refusal) => ApplyResult {
-            refusal: table::number(refusal),
-            returned: table::returned(refusal),
-            matchings: 0,
-            nodes_added: 0,
-            edges_added: 0,
-            nodes_removed: 0,
-            edges_removed: 0,
-        },
-    }
-}
-
-fn refused_step(refusal: Refusal) -> StepResult
-    ensures { λ r. ⌜ r ≡ refusedStep refusal ⌝ }
-{
-    StepResult {
-        refusal: table::number(refusal),
-        returned: table::returned(refusal),
+        ApplyAnswer::Refused(refusal) => {
+            let row = refused_step(refusal);
+            ApplyResult {
+                refusal: row.refusal,
+                returned: row.returned,
+                matchings: 0,
+                nodes_added: 0,
+                edges_added: 0,
+                nodes_removed: 0,
+                edges_removed: 0,
+            }
+        }
     }
 }
 
@@ -157,13 +164,16 @@ pub fn matching_result(matched: Matched) -> MatchingResult
             length: 0,
             numbers: [0; PackedPattern::NODES],
         },
-        MatchingAnswer::Refused(refusal) => MatchingResult {
-            refusal: table::number(refusal),
-            returned: table::returned(refusal),
-            found: 0,
-            length: 0,
-            numbers: [0; PackedPattern::NODES],
-        },
+        MatchingAnswer::Refused(refusal) => {
+            let row = refused_step(refusal);
+            MatchingResult {
+                refusal: row.refusal,
+                returned: row.returned,
+                found: 0,
+                length: 0,
+                numbers: [0; PackedPattern::NODES],
+            }
+        }
     }
 }
 
@@ -171,15 +181,18 @@ pub fn save_result(answer: SaveAnswer) -> SaveResult
     ensures { λ r. ⌜ r ≡ saveResult answer ⌝ }
 {
     match answer {
-        SaveAnswer::Saved { length } => SaveResult {
+        SaveAnswer::Saved { length: bytes } => SaveResult {
             refusal: 0,
             returned: 0,
-            length,
+            length: bytes,
         },
-        SaveAnswer::Refused(refusal) => SaveResult {
-            refusal: table::number(refusal),
-            returned: table::returned(refusal),
-            length: 0,
-        },
+        SaveAnswer::Refused(refusal) => {
+            let row = refused_step(refusal);
+            SaveResult {
+                refusal: row.refusal,
+                returned: row.returned,
+                length: 0,
+            }
+        }
     }
 }

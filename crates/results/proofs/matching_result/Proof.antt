@@ -13,11 +13,8 @@ enum-told c = search needs
 enum-known-answer-2 : tie.Need-enum-known-answer-2
 enum-known-answer-2 c = search needs
 
-number-requires : tie.Need-number-requires
-number-requires c κs = search needs
-
-returned-requires : tie.Need-returned-requires
-returned-requires c κs = search needs
+refused-step-requires : tie.Need-refused-step-requires
+refused-step-requires c κs = search needs
 
 returns : tie.Need-returns
 returns c = search (found-case, needs)
@@ -35,8 +32,7 @@ matching-result-spec =
     enum-known-answer
     enum-told
     enum-known-answer-2
-    number-requires
-    returned-requires
+    refused-step-requires
     returns
     returns-2
     returns-3)

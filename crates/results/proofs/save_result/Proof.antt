@@ -10,11 +10,8 @@ enum-known-answer c = search needs
 enum-known-answer-2 : tie.Need-enum-known-answer-2
 enum-known-answer-2 c = search needs
 
-number-requires : tie.Need-number-requires
-number-requires c κs = search needs
-
-returned-requires : tie.Need-returned-requires
-returned-requires c κs = search needs
+refused-step-requires : tie.Need-refused-step-requires
+refused-step-requires c κs = search needs
 
 returns : tie.Need-returns
 returns c = search (saved-case, needs)
@@ -28,7 +25,6 @@ save-result-spec =
     (tie.spec
     enum-known-answer
     enum-known-answer-2
-    number-requires
-    returned-requires
+    refused-step-requires
     returns
     returns-2)

@@ -26,9 +26,9 @@ pub opened-case : {a : OpenAnswer} {c n : ℕ} → a ≡ open-answer.Opened c n
     → record { refusal = 0; returned = 0; classes = c; names = n } ≡ openResult a
 opened-case e = rw e
 
-pub open-refused : {a : OpenAnswer} {x : Refusal} {n m : ℕ} → a ≡ open-answer.Refused x → n ≡ tableRow x .number → m ≡ tableRow x .returned
-    → record { refusal = n; returned = m; classes = 0; names = 0 } ≡ openResult a
-open-refused e f g = rw (e, f, g)
+pub open-refused : {a : OpenAnswer} {x : Refusal} {r : StepResult} → a ≡ open-answer.Refused x → r ≡ refusedStep x
+    → record { refusal = r .refusal; returned = r .returned; classes = 0; names = 0 } ≡ openResult a
+open-refused e f = rw (e, f)
 
 pub applied-case : {a : ApplyAnswer} {c : Counts} → a ≡ apply-answer.Applied c
     → record {
@@ -42,17 +42,17 @@ pub applied-case : {a : ApplyAnswer} {c : Counts} → a ≡ apply-answer.Applied
     } ≡ applyResult a
 applied-case e = rw e
 
-pub apply-refused : {a : ApplyAnswer} {x : Refusal} {n m : ℕ} → a ≡ apply-answer.Refused x → n ≡ tableRow x .number → m ≡ tableRow x .returned
+pub apply-refused : {a : ApplyAnswer} {x : Refusal} {r : StepResult} → a ≡ apply-answer.Refused x → r ≡ refusedStep x
     → record {
-      refusal = n;
-      returned = m;
+      refusal = r .refusal;
+      returned = r .returned;
       matchings = 0;
       «nodes_added» = 0;
       «edges_added» = 0;
       «nodes_removed» = 0;
       «edges_removed» = 0;
     } ≡ applyResult a
-apply-refused e f g = rw (e, f, g)
+apply-refused e f = rw (e, f)
 
 pub step-refused : (x : Refusal) {n m : ℕ} → n ≡ tableRow x .number → m ≡ tableRow x .returned
     → record { refusal = n; returned = m } ≡ refusedStep x
@@ -78,14 +78,13 @@ pub nothing-case : (m : Matched) → m .answer ≡ matching-answer.Nothing
     → record { refusal = 0; returned = 0; found = 0; length = 0; numbers = 0 ∷ 0 ∷ 0 ∷ 0 ∷ 0 ∷ 0 ∷ [] } ≡ matchingResult m
 nothing-case m e = rw e
 
-pub matching-refused : (m : Matched) {x : Refusal} {n k : ℕ} → m .answer ≡ matching-answer.Refused x → n ≡ tableRow x .number
-    → k ≡ tableRow x .returned
-    → record { refusal = n; returned = k; found = 0; length = 0; numbers = 0 ∷ 0 ∷ 0 ∷ 0 ∷ 0 ∷ 0 ∷ [] } ≡ matchingResult m
-matching-refused m e f g = rw (e, f, g)
+pub matching-refused : (m : Matched) {x : Refusal} {r : StepResult} → m .answer ≡ matching-answer.Refused x → r ≡ refusedStep x
+    → record { refusal = r .refusal; returned = r .returned; found = 0; length = 0; numbers = 0 ∷ 0 ∷ 0 ∷ 0 ∷ 0 ∷ 0 ∷ [] } ≡ matchingResult m
+matching-refused m e f = rw (e, f)
 
 pub saved-case : {a : SaveAnswer} {n : ℕ} → a ≡ save-answer.Saved n → record { refusal = 0; returned = 0; length = n } ≡ saveResult a
 saved-case e = rw e
 
-pub save-refused : {a : SaveAnswer} {x : Refusal} {n m : ℕ} → a ≡ save-answer.Refused x → n ≡ tableRow x .number → m ≡ tableRow x .returned
-    → record { refusal = n; returned = m; length = 0 } ≡ saveResult a
-save-refused e f g = rw (e, f, g)
+pub save-refused : {a : SaveAnswer} {x : Refusal} {r : StepResult} → a ≡ save-answer.Refused x → r ≡ refusedStep x
+    → record { refusal = r .refusal; returned = r .returned; length = 0 } ≡ saveResult a
+save-refused e f = rw (e, f)
