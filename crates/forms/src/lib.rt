@@ -79,154 +79,180 @@ const PNODE_BOUND: u32 = PackedPattern::NODES as u32;
 
 const CODE_BOUND: u32 = PackedAction::CODES as u32;
 
-const FORMS: [Form; Form::KINDS] = [
-    // class=number,kind
-    Form {
-        key: 0x1_63_6c_61_73_73,
-        letters: 5,
-        numbers: 2,
-        below: [NUMBER_BOUND, KIND_BOUND, 0, 0],
-        room: [NUMBERS, KINDS, 0, 0],
-        by: KINDS,
-        most: 0,
-    },
-    // name=number,kind
-    Form {
-        key: 0x1_6e_61_6d_65,
-        letters: 4,
-        numbers: 2,
-        below: [NUMBER_BOUND, KIND_BOUND, 0, 0],
-        room: [NUMBERS, KINDS, 0, 0],
-        by: KINDS,
-        most: 0,
-    },
-    // may=class,name,class
-    Form {
-        key: 0x1_6d_61_79,
-        letters: 3,
-        numbers: 3,
-        below: [NUMBER_BOUND, NUMBER_BOUND, NUMBER_BOUND, 0],
-        room: [NODE_NUMBERS, NUMBERS, NODE_NUMBERS, 0],
-        by: 1,
-        most: PackedScheme::PERMITTED,
-    },
-    // node=number,class,value
-    Form {
-        key: 0x1_6e_6f_64_65,
-        letters: 4,
-        numbers: 3,
-        below: [NODE_BOUND, NUMBER_BOUND, VALUE_BOUND, 0],
-        room: [NODE_NUMBERS, NUMBERS, VALUE_ROOM, 0],
-        by: NODE_NUMBER,
-        most: PackedInstance::NODES,
-    },
-    // edge=source,name,target
-    Form {
-        key: 0x1_65_64_67_65,
-        letters: 4,
-        numbers: 3,
-        below: [NODE_BOUND, NUMBER_BOUND, NODE_BOUND, 0],
-        room: [NODE_NUMBERS, NUMBERS, NODE_NUMBERS, 0],
-        by: 1,
-        most: PackedInstance::EDGES,
-    },
-    // op=code
-    Form {
-        key: 0x1_6f_70,
-        letters: 2,
-        numbers: 1,
-        below: [CODE_BOUND, 0, 0, 0],
-        room: [NODE_NUMBERS, 0, 0, 0],
-        by: NODE_NUMBERS,
-        most: 0,
-    },
-    // pnode=class,given,value
-    Form {
-        key: 0x1_70_6e_6f_64_65,
-        letters: 5,
-        numbers: 3,
-        below: [NUMBER_BOUND, KIND_BOUND, VALUE_BOUND, 0],
-        room: [NUMBERS, KINDS, VALUE_ROOM, 0],
-        by: 0,
-        most: PackedPattern::NODES,
-    },
-    // pedge=node,name,node
-    Form {
-        key: 0x1_70_65_64_67_65,
-        letters: 5,
-        numbers: 3,
-        below: [PNODE_BOUND, NUMBER_BOUND, PNODE_BOUND, 0],
-        room: [NODE_NUMBERS, NUMBERS, NODE_NUMBERS, 0],
-        by: 1,
-        most: PackedPattern::EDGES,
-    },
-    // make=class
-    Form {
-        key: 0x1_6d_61_6b_65,
-        letters: 4,
-        numbers: 1,
-        below: [NUMBER_BOUND, 0, 0, 0],
-        room: [NUMBERS, 0, 0, 0],
-        by: NUMBERS,
-        most: 0,
-    },
-    // arm=name,node
-    Form {
-        key: 0x1_61_72_6d,
-        letters: 3,
-        numbers: 2,
-        below: [NUMBER_BOUND, PNODE_BOUND, 0, 0],
-        room: [NUMBERS, NODE_NUMBERS, 0, 0],
-        by: ARM_NAME,
-        most: PackedAction::PARTS,
-    },
-    // put=node,name,node
-    Form {
-        key: 0x1_70_75_74,
-        letters: 3,
-        numbers: 3,
-        below: [PNODE_BOUND, NUMBER_BOUND, PNODE_BOUND, 0],
-        room: [NODE_NUMBERS, NUMBERS, NODE_NUMBERS, 0],
-        by: 1,
-        most: PackedAction::PARTS,
-    },
-    // drop=node
-    Form {
-        key: 0x1_64_72_6f_70,
-        letters: 4,
-        numbers: 1,
-        below: [PNODE_BOUND, 0, 0, 0],
-        room: [NODE_NUMBERS, 0, 0, 0],
-        by: NODE_NUMBERS,
-        most: 0,
-    },
-    // cut=node,name,node
-    Form {
-        key: 0x1_63_75_74,
-        letters: 3,
-        numbers: 3,
-        below: [PNODE_BOUND, NUMBER_BOUND, PNODE_BOUND, 0],
-        room: [NODE_NUMBERS, NUMBERS, NODE_NUMBERS, 0],
-        by: 1,
-        most: PackedAction::PARTS,
-    },
-    // group=p,K,a,b
-    Form {
-        key: 0x1_67_72_6f_75_70,
-        letters: 5,
-        numbers: 4,
-        below: [PNODE_BOUND, NUMBER_BOUND, NUMBER_BOUND, NUMBER_BOUND],
-        room: [NODE_NUMBERS, NUMBERS, NUMBERS, NUMBERS],
-        by: GROUPS,
-        most: 0,
-    },
-];
+// class=number,kind
+const CLASS_FORM: Form = Form {
+    key: 0x1_63_6c_61_73_73,
+    letters: 5,
+    numbers: 2,
+    below: [NUMBER_BOUND, KIND_BOUND, 0, 0],
+    room: [NUMBERS, KINDS, 0, 0],
+    by: KINDS,
+    most: 0,
+};
+
+// name=number,kind
+const NAME_FORM: Form = Form {
+    key: 0x1_6e_61_6d_65,
+    letters: 4,
+    numbers: 2,
+    below: [NUMBER_BOUND, KIND_BOUND, 0, 0],
+    room: [NUMBERS, KINDS, 0, 0],
+    by: KINDS,
+    most: 0,
+};
+
+// may=class,name,class
+const MAY_FORM: Form = Form {
+    key: 0x1_6d_61_79,
+    letters: 3,
+    numbers: 3,
+    below: [NUMBER_BOUND, NUMBER_BOUND, NUMBER_BOUND, 0],
+    room: [NODE_NUMBERS, NUMBERS, NODE_NUMBERS, 0],
+    by: 1,
+    most: PackedScheme::PERMITTED,
+};
+
+// node=number,class,value
+const NODE_FORM: Form = Form {
+    key: 0x1_6e_6f_64_65,
+    letters: 4,
+    numbers: 3,
+    below: [NODE_BOUND, NUMBER_BOUND, VALUE_BOUND, 0],
+    room: [NODE_NUMBERS, NUMBERS, VALUE_ROOM, 0],
+    by: NODE_NUMBER,
+    most: PackedInstance::NODES,
+};
+
+// edge=source,name,target
+const EDGE_FORM: Form = Form {
+    key: 0x1_65_64_67_65,
+    letters: 4,
+    numbers: 3,
+    below: [NODE_BOUND, NUMBER_BOUND, NODE_BOUND, 0],
+    room: [NODE_NUMBERS, NUMBERS, NODE_NUMBERS, 0],
+    by: 1,
+    most: PackedInstance::EDGES,
+};
+
+// op=code
+const OP_FORM: Form = Form {
+    key: 0x1_6f_70,
+    letters: 2,
+    numbers: 1,
+    below: [CODE_BOUND, 0, 0, 0],
+    room: [NODE_NUMBERS, 0, 0, 0],
+    by: NODE_NUMBERS,
+    most: 0,
+};
+
+// pnode=class,given,value
+const PNODE_FORM: Form = Form {
+    key: 0x1_70_6e_6f_64_65,
+    letters: 5,
+    numbers: 3,
+    below: [NUMBER_BOUND, KIND_BOUND, VALUE_BOUND, 0],
+    room: [NUMBERS, KINDS, VALUE_ROOM, 0],
+    by: 0,
+    most: PackedPattern::NODES,
+};
+
+// pedge=node,name,node
+const PEDGE_FORM: Form = Form {
+    key: 0x1_70_65_64_67_65,
+    letters: 5,
+    numbers: 3,
+    below: [PNODE_BOUND, NUMBER_BOUND, PNODE_BOUND, 0],
+    room: [NODE_NUMBERS, NUMBERS, NODE_NUMBERS, 0],
+    by: 1,
+    most: PackedPattern::EDGES,
+};
+
+// make=class
+const MAKE_FORM: Form = Form {
+    key: 0x1_6d_61_6b_65,
+    letters: 4,
+    numbers: 1,
+    below: [NUMBER_BOUND, 0, 0, 0],
+    room: [NUMBERS, 0, 0, 0],
+    by: NUMBERS,
+    most: 0,
+};
+
+// arm=name,node
+const ARM_FORM: Form = Form {
+    key: 0x1_61_72_6d,
+    letters: 3,
+    numbers: 2,
+    below: [NUMBER_BOUND, PNODE_BOUND, 0, 0],
+    room: [NUMBERS, NODE_NUMBERS, 0, 0],
+    by: ARM_NAME,
+    most: PackedAction::PARTS,
+};
+
+// put=node,name,node
+const PUT_FORM: Form = Form {
+    key: 0x1_70_75_74,
+    letters: 3,
+    numbers: 3,
+    below: [PNODE_BOUND, NUMBER_BOUND, PNODE_BOUND, 0],
+    room: [NODE_NUMBERS, NUMBERS, NODE_NUMBERS, 0],
+    by: 1,
+    most: PackedAction::PARTS,
+};
+
+// drop=node
+const DROP_FORM: Form = Form {
+    key: 0x1_64_72_6f_70,
+    letters: 4,
+    numbers: 1,
+    below: [PNODE_BOUND, 0, 0, 0],
+    room: [NODE_NUMBERS, 0, 0, 0],
+    by: NODE_NUMBERS,
+    most: 0,
+};
+
+// cut=node,name,node
+const CUT_FORM: Form = Form {
+    key: 0x1_63_75_74,
+    letters: 3,
+    numbers: 3,
+    below: [PNODE_BOUND, NUMBER_BOUND, PNODE_BOUND, 0],
+    room: [NODE_NUMBERS, NUMBERS, NODE_NUMBERS, 0],
+    by: 1,
+    most: PackedAction::PARTS,
+};
+
+// group=p,K,a,b
+const GROUP_FORM: Form = Form {
+    key: 0x1_67_72_6f_75_70,
+    letters: 5,
+    numbers: 4,
+    below: [PNODE_BOUND, NUMBER_BOUND, NUMBER_BOUND, NUMBER_BOUND],
+    room: [NODE_NUMBERS, NUMBERS, NUMBERS, NUMBERS],
+    by: GROUPS,
+    most: 0,
+};
 
 pub fn form_at(kind: usize) -> Form
     requires { ⌜ kind < kindCount ⌝ }
     ensures { λ r. ⌜ r ≡ packedForm (kindAt kind) ⌝ }
 {
-    FORMS[kind]
+    match kind {
+        Form::CLASS => CLASS_FORM,
+        Form::NAME => NAME_FORM,
+        Form::MAY => MAY_FORM,
+        Form::NODE => NODE_FORM,
+        Form::EDGE => EDGE_FORM,
+        Form::OP => OP_FORM,
+        Form::PNODE => PNODE_FORM,
+        Form::PEDGE => PEDGE_FORM,
+        Form::MAKE => MAKE_FORM,
+        Form::ARM => ARM_FORM,
+        Form::PUT => PUT_FORM,
+        Form::DROP => DROP_FORM,
+        Form::CUT => CUT_FORM,
+        _ => GROUP_FORM,
+    }
 }
 
 // How many bytes there are.

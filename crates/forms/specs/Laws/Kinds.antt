@@ -33,10 +33,20 @@ all-at : {A : Type 0} (p : A → Bool) (xs : List A) (i : ℕ) (d : A) → all p
 all-at p xs i d t h = all-members p xs .0 t (getD xs i d) (at-place xs i d h)
 
 -- # The table
-pub form-in-table : (kind : ℕ) (d : PackedForm) → kind < kindCount → getD (map packedForm kinds) kind d ≡ packedForm (kindAt kind)
-unfolding kinds kindAt
-form-in-table kind d h =
-    getD-inside (map packedForm kinds) kind d (packedForm (drawingKind class=)) h ∙ List·getD-map packedForm kinds kind (drawingKind class=)
+pub form-known : (k kind : ℕ) → kind ≡ k → packedForm (kindAt k) ≡ packedForm (kindAt kind)
+form-known k kind e = ap (λ n. packedForm (kindAt n)) (sym e)
+
+-- a kind that is none of the first n, and so, of all but the last, the last
+abbrev NoneBelow : ℕ → ℕ → Type 0
+NoneBelow zero kind = Unit {0}
+NoneBelow (suc n) kind = NoneBelow n kind × (kind ≡ n → ⊥)
+
+none-below : (n kind : ℕ) → NoneBelow n kind → n ≤ kind
+none-below zero kind h = omega arith
+none-below (suc n) kind h = omega (arith, none-below n kind (h .0), h .1)
+
+pub last-kind : (kind : ℕ) → kind < kindCount → NoneBelow 13 kind → kind ≡ 13
+last-kind kind l h = omega (arith, l, none-below 13 kind h)
 
 within-wider : (bs rs ns : List ℕ) → within (map suc rs) bs ≡ true → within bs ns ≡ true → within rs ns ≡ true
 within-wider [] [] ns h w = w
