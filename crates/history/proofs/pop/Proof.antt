@@ -9,22 +9,21 @@ use Rattle.history.proofs.pop.Statement.{statement}
 use Rattle.history.proofs.pop.Tie as tie
 
 abbrev Inv-loop : tie.InvT-loop
-Inv-loop history copies newest moved₀ i₀ moved i = MovedDown copies i moved
+Inv-loop moved₀ newest left i₀ moved i = MovedDown moved₀ left i moved
 
 abbrev μ-loop : tie.MeasureT-loop
-μ-loop history copies newest moved₀ i₀ moved i = Limits.copies - i
+μ-loop moved₀ newest left i₀ moved i = Limits.copies - i
 
 array-copy-out-newest : tie.Need-array-copy-out-newest Inv-loop μ-loop
 array-copy-out-newest c = search needs
 
+sub-left : tie.Need-sub-left Inv-loop μ-loop
+sub-left c = search needs
+
 loop-holds : tie.Need-loop-holds Inv-loop μ-loop
 loop-holds c =
-    let start = c .before .before in
-    let whole : length (start .args .history .copies) ≡ Limits.copies = simp length-map at (start .good .0 .1 .1 .0 .1 .0 .1) in
+    let whole : length (c .before .before .before .args .history .copies) ≡ Limits.copies = simp length-map at (c .before .before .before .good .0 .1 .1 .0 .1 .0 .1) in
     search (down-first, needs)
-
-add-loop : tie.Need-add-loop Inv-loop μ-loop
-add-loop c = search needs
 
 add-copy : tie.Need-add-copy Inv-loop μ-loop
 add-copy c = search needs
@@ -50,9 +49,6 @@ loop-less c = search needs
 loop-again : tie.Need-loop-again Inv-loop μ-loop
 loop-again c = search (down-next, needs)
 
-sub-t20 : tie.Need-sub-t20 Inv-loop μ-loop
-sub-t20 c = search needs
-
 returns : tie.Need-returns Inv-loop μ-loop
 returns c = search (pop-left, needs)
 
@@ -63,8 +59,8 @@ pop-spec =
     Inv-loop
     μ-loop
     array-copy-out-newest
+    sub-left
     loop-holds
-    add-loop
     add-copy
     mul-copy
     array-copy-out-copy
@@ -73,5 +69,4 @@ pop-spec =
     add-i
     loop-less
     loop-again
-    sub-t20
     returns)
