@@ -1,7 +1,9 @@
 -- What a result tells of an answer, case by case: 0 and 0, then what is reported; or the row of the table of refusals, and zeros.
 use Prim.Native.Nat.{ℕ}
 use mathlib.Core.List.{List, [], _∷_}
-use Rattle.model.specs.Refusals.{tableRow}
+use mathlib.Core.Path.{_≡_}
+use Rattle.model.specs.Refusals.{Row, Outcome, accepted, refused, tableRow}
+use Rattle.model.specs.Record.{Report}
 use Rattle.model.specs.declared.Refusal.{Refusal}
 use Rattle.model.specs.declared.OpenAnswer.{OpenAnswer}
 use Rattle.model.specs.declared.OpenAnswer.the-variants as open-answer
@@ -65,7 +67,7 @@ closeResult (close-answer.Refused x) = refusedStep x
 abbrev unmatched : (refusal returned : ℕ) → MatchingResult
 unmatched n m = record { refusal = n; returned = m; found = 0; length = 0; numbers = 0 ∷ 0 ∷ 0 ∷ 0 ∷ 0 ∷ 0 ∷ [] }
 
-abbrev matchingOf : MatchingAnswer → (beside : List ℕ) → MatchingResult
+abbrev pub matchingOf : MatchingAnswer → (beside : List ℕ) → MatchingResult
 matchingOf (matching-answer.Found k) beside = record { refusal = 0; returned = 0; found = 1; length = k; numbers = beside }
 matchingOf matching-answer.Nothing beside = unmatched 0 0
 matchingOf (matching-answer.Refused x) beside = unmatched (tableRow x .number) (tableRow x .returned)
@@ -76,3 +78,14 @@ matchingResult m = matchingOf (m .answer) (m .numbers)
 abbrev pub saveResult : SaveAnswer → SaveResult
 saveResult (save-answer.Saved n) = record { refusal = 0; returned = 0; length = n }
 saveResult (save-answer.Refused x) = record { refusal = tableRow x .number; returned = tableRow x .returned; length = 0 }
+
+-- # The first two numbers
+-- 0 and 0 where the call was done, or the refusal's row
+abbrev pub rowOf : Outcome Report → Row
+rowOf (accepted y) = record { number = 0; returned = 0 }
+rowOf (refused x) = tableRow x
+
+-- they tell of every answer whether it is a refusal, and which
+abbrev pub Numbered : {Answer Result : Type 0} → (Answer → Outcome Report) → (Answer → Result) → (refusal returned : Result → ℕ) → Type 0
+Numbered {Answer} told numbers refusal returned =
+    (a : Answer) → (refusal (numbers a) ≡ rowOf (told a) .number) × (returned (numbers a) ≡ rowOf (told a) .returned)
