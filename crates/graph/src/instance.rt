@@ -8,7 +8,7 @@ ghost use Rattle.lists.specs.Lists.{find};
 ghost use Rattle.lists.specs.Order.{rising};
 ghost use Rattle.graph.specs.Packed.{FreshInstance, unpackNode, foundNode};
 use crate::packing::NODE_NUMBER;
-use keys::place;
+use keys::place_dense;
 
 // A graph's order is its number of nodes, its size the number of its edges.
 #[repr(C)]
@@ -41,13 +41,13 @@ pub enum Found {
     Nothing,
 }
 
-// The key of the node that has the number, by halving.
+// The key of the node that has the number: at once where numbers have no gap, else by halving.
 pub fn node_at(nodes: &[u64], number: u64) -> Found
     requires { ⌜ rising (map (λ n. n .number ∷ []) (map unpackNode (now nodes))) ≡ true ⌝ }
     requires { ⌜ number < 2 ^ 16 ⌝ }
     ensures { λ r. ⌜ foundNode r ≡ find (λ n. eqb (n .number) number) (map unpackNode (now (nodes .entry))) ⌝ }
 {
-    let at = place(nodes, number * NODE_NUMBER);
+    let at = place_dense(nodes, number * NODE_NUMBER, NODE_NUMBER);
     if at < nodes.len() {
         let node = nodes[at];
         if node / NODE_NUMBER == number {

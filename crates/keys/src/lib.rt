@@ -25,6 +25,49 @@ pub fn place(keys: &[u64], key: u64) -> usize
     low
 }
 
+// Where the key stands if the keys, in units of `unit`, follow each other without a gap.
+fn guess(keys: &[u64], key: u64, unit: u64) -> usize
+    requires { ⌜ 0 < unit ⌝ }
+{
+    if keys.len() == 0 {
+        return 0;
+    }
+    let first = keys[0] / unit;
+    let own = key / unit;
+    if first <= own {
+        (own - first) as usize
+    } else {
+        0
+    }
+}
+
+// The same as `place`, which is asked only if the key does not stand at `at`.
+fn place_near(keys: &[u64], key: u64, at: usize) -> usize
+    requires { ⌜ keysRise (now keys) ≡ true ⌝ }
+    ensures { λ r. ⌜ r ≡ placeOf key (now (keys .entry)) ⌝ }
+{
+    if at < keys.len() {
+        if key <= keys[at] {
+            if at == 0 {
+                return 0;
+            }
+            if keys[at - 1] < key {
+                return at;
+            }
+        }
+    }
+    place(keys, key)
+}
+
+// The same as `place`, in one step where the keys follow each other without a gap.
+pub fn place_dense(keys: &[u64], key: u64, unit: u64) -> usize
+    requires { ⌜ keysRise (now keys) ≡ true ⌝ }
+    requires { ⌜ 0 < unit ⌝ }
+    ensures { λ r. ⌜ r ≡ placeOf key (now (keys .entry)) ⌝ }
+{
+    place_near(keys, key, guess(keys, key, unit))
+}
+
 pub fn has_key(keys: &[u64], key: u64) -> bool
     requires { ⌜ keysRise (now keys) ≡ true ⌝ }
     ensures { λ r. ⌜ r ≡ member (now (keys .entry)) key ⌝ }

@@ -164,6 +164,13 @@ module _ (ks : List ℕ) (key : ℕ) (rise : keysRise ks ≡ true) where
   pub place-below : (i : ℕ) → i < length ks → key ≤ ks ! i → placeOf key ks ≤ i
   place-below = others-after (stands key ks rise)
 
+  -- a key stands where those before are below it and that one is not
+  pub place-first : (i : ℕ) → i < length ks → key ≤ ks ! i → i ≡ 0 → 0 ≡ placeOf key ks
+  place-first i l k e = omega (arith, place-below i l k)
+
+  pub place-here : (i : ℕ) → i < length ks → key ≤ ks ! i → ks ! (i - 1) < key → i ≡ placeOf key ks
+  place-here i l k n = omega (arith, place-below i l k, place-above (i - 1) (omega arith) n)
+
   module _ (at : ℕ) (place : at ≡ placeOf key ks) where
     pub placed : Stands key ks at
     placed = rw place (stands key ks rise)

@@ -6,11 +6,11 @@ use Rattle.graph.specs.Laws.Keys.{rising-numbers, node-found, node-misse
 use Rattle.graph.proofs.instance.node_at.Statement.{statement}
 use Rattle.graph.proofs.instance.node_at.Tie as tie
 
-mul-place : tie.Need-mul-place
-mul-place c = search needs
+mul-place-dense : tie.Need-mul-place-dense
+mul-place-dense c = search needs
 
-place-requires : tie.Need-place-requires
-place-requires c κs = search (rising-numbers, needs)
+place-dense-requires : tie.Need-place-dense-requires
+place-dense-requires c κs = search (rising-numbers, needs)
 
 mul-node : tie.Need-mul-node
 mul-node c = search needs
@@ -21,19 +21,19 @@ shared-slice-read-node c = search needs
 returns : tie.Need-returns
 returns c =
     let at = c .before .before .before in
-    node-found _ _ (at .before .before .pre .0) _ (at .place .ensures) (omega arith) (c .if2 .taken)
+    node-found _ _ (at .before .before .pre .0) _ (at .place-dense .ensures) (omega arith) (c .if2 .taken)
 
 returns-2 : tie.Need-returns-2
 returns-2 c =
     let at = c .before .before .before in
-    node-missed _ _ (at .before .before .pre .0) _ (at .place .ensures) (λ l. c .if2 .left)
+    node-missed _ _ (at .before .before .pre .0) _ (at .place-dense .ensures) (λ l. c .if2 .left)
 
 returns-3 : tie.Need-returns-3
 returns-3 c =
     let at = c .before in
-    node-missed _ _ (at .before .before .pre .0) _ (at .place .ensures) (λ l. omega arith)
+    node-missed _ _ (at .before .before .pre .0) _ (at .place-dense .ensures) (λ l. omega arith)
 
 pub node-at-spec : {M : Type 1} → statement M
 node-at-spec =
     tie.close
-    (tie.spec mul-place place-requires mul-node shared-slice-read-node returns returns-2 returns-3)
+    (tie.spec mul-place-dense place-dense-requires mul-node shared-slice-read-node returns returns-2 returns-3)
