@@ -6,7 +6,7 @@ use mathlib.Core.List.{List}
 use Rattle.model.specs.Refusals.{Outcome, accepted, refused}
 use Rattle.model.specs.Record.{Call, Report, lent, step}
 use Rattle.model.specs.Laws.Calls.{refused-changes-nothing}
-use Rattle.session.specs.Sessions.{unpackSession, Stepped}
+use Rattle.session.specs.Sessions.{unpackSession}
 use Rattle.session.specs.declared.Session.{Session}
 use Rattle.results.specs.Results.{rowOf, Numbered}
 use Rattle.hengvoat.specs.Exports.{Exports}

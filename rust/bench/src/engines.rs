@@ -21,6 +21,19 @@ pub trait Engine {
     fn save(&self, buffer: &mut [u8]) -> usize;
 }
 
+/// The five counts, which both engines' reports have under the same names.
+macro_rules! five {
+    ($report:expr) => {
+        [
+            $report.matchings,
+            $report.nodes_added,
+            $report.edges_added,
+            $report.nodes_removed,
+            $report.edges_removed,
+        ]
+    };
+}
+
 impl Engine for hengvoat::Session {
     fn new() -> Self {
         hengvoat::Session::new()
@@ -32,7 +45,7 @@ impl Engine for hengvoat::Session {
 
     fn apply(&mut self, rule: &[u8]) -> Result<[u64; 5], (u64, u64)> {
         self.apply(rule)
-            .map(|a| [a.matchings, a.nodes_added, a.edges_added, a.nodes_removed, a.edges_removed])
+            .map(|report| five!(report))
             .map_err(|refusal| (refusal.number(), refusal.returned()))
     }
 
@@ -68,7 +81,7 @@ impl Engine for second_engine::Engine {
 
     fn apply(&mut self, rule: &[u8]) -> Result<[u64; 5], (u64, u64)> {
         self.apply(rule)
-            .map(|a| [a.matchings, a.nodes_added, a.edges_added, a.nodes_removed, a.edges_removed])
+            .map(|report| five!(report))
             .map_err(|refused| (refused.number, refused.returned))
     }
 

@@ -1,7 +1,7 @@
 -- The result of each case of an answer, from what is known of the answer and of the refusal's row.
 use Prim.Native.Nat.{ℕ}
 use mathlib.Core.Path.{_≡_}
-use mathlib.Core.List.{List, [], _∷_}
+use mathlib.Core.List.{[], _∷_}
 use Rattle.model.specs.Refusals.{tableRow}
 use Rattle.model.specs.declared.Counts.{Counts}
 use Rattle.model.specs.declared.Refusal.{Refusal}
@@ -13,14 +13,12 @@ use Rattle.model.specs.declared.UndoAnswer.{UndoAnswer}
 use Rattle.model.specs.declared.UndoAnswer.the-variants as undo-answer
 use Rattle.model.specs.declared.CloseAnswer.{CloseAnswer}
 use Rattle.model.specs.declared.CloseAnswer.the-variants as close-answer
-use Rattle.model.specs.declared.MatchingAnswer.{MatchingAnswer}
 use Rattle.model.specs.declared.MatchingAnswer.the-variants as matching-answer
 use Rattle.model.specs.declared.SaveAnswer.{SaveAnswer}
 use Rattle.model.specs.declared.SaveAnswer.the-variants as save-answer
 use Rattle.matcher.specs.declared.listing.Matched.{Matched}
 use Rattle.results.specs.Results.{openResult, applyResult, undoResult, closeResult, matchingResult, saveResult, refusedStep}
 use Rattle.results.specs.declared.StepResult.{StepResult}
-use Rattle.results.specs.declared.OpenResult.{OpenResult}
 
 pub opened-case : {a : OpenAnswer} {c n : ℕ} → a ≡ open-answer.Opened c n
     → record { refusal = 0; returned = 0; classes = c; names = n } ≡ openResult a

@@ -1,13 +1,10 @@
 -- Each result tells by its first two numbers whether its answer is a refusal, and which (`rowOf`). By cases of the answer, as antt computes.
 use mathlib.Core.Path.{refl}
-use mathlib.Core.List.{List}
-use Prim.Native.Nat.{ℕ}
 use Rattle.model.specs.Answers.{openAnswer, applyAnswer, undoAnswer, closeAnswer, matchingAnswer, saveAnswer}
 use Rattle.model.specs.declared.OpenAnswer.the-variants as open-answer
 use Rattle.model.specs.declared.ApplyAnswer.the-variants as apply-answer
 use Rattle.model.specs.declared.UndoAnswer.the-variants as undo-answer
 use Rattle.model.specs.declared.CloseAnswer.the-variants as close-answer
-use Rattle.model.specs.declared.MatchingAnswer.{MatchingAnswer}
 use Rattle.model.specs.declared.MatchingAnswer.the-variants as matching-answer
 use Rattle.model.specs.declared.SaveAnswer.the-variants as save-answer
 use Rattle.matcher.specs.Matchers.{given}
