@@ -55,40 +55,20 @@ impl Drawing {
     }
 
     /// The nodes of a class whose number is at least `least`, rising.
-    pub(crate) fn nodes_of(
-        &self,
-        class: ClassNumber,
-        least: NodeNumber,
-    ) -> impl Iterator<Item = NodeNumber> + '_ {
+    pub(crate) fn nodes_of(&self, class: ClassNumber, least: NodeNumber) -> impl Iterator<Item = NodeNumber> + '_ {
         self.by_class
             .range((class, least)..=(class, NodeNumber::MAX))
             .map(|&(_, node)| node)
     }
 
     /// The targets of a node's edges of one name, from `least` on, rising.
-    pub(crate) fn targets(
-        &self,
-        source: NodeNumber,
-        name: NameNumber,
-        least: NodeNumber,
-    ) -> impl Iterator<Item = NodeNumber> + '_ {
-        let edge_to = |target| Edge {
-            source,
-            name,
-            target,
-        };
-        self.edges
-            .range(edge_to(least)..=edge_to(NodeNumber::MAX))
-            .map(|edge| edge.target)
+    pub(crate) fn targets(&self, source: NodeNumber, name: NameNumber, least: NodeNumber) -> impl Iterator<Item = NodeNumber> + '_ {
+        let edge_to = |target| Edge { source, name, target };
+        self.edges.range(edge_to(least)..=edge_to(NodeNumber::MAX)).map(|edge| edge.target)
     }
 
     /// The sources of the edges of one name into a node, from `least` on, rising.
-    pub(crate) fn sources(
-        &self,
-        target: NodeNumber,
-        name: NameNumber,
-        least: NodeNumber,
-    ) -> impl Iterator<Item = NodeNumber> + '_ {
+    pub(crate) fn sources(&self, target: NodeNumber, name: NameNumber, least: NodeNumber) -> impl Iterator<Item = NodeNumber> + '_ {
         self.by_target
             .range((target, name, least)..=(target, name, NodeNumber::MAX))
             .map(|&(_, _, source)| source)
@@ -110,8 +90,7 @@ impl Drawing {
     /// Takes an edge out, if it stands.
     pub(crate) fn remove_edge(&mut self, edge: Edge) {
         if self.edges.remove(&edge) {
-            self.by_target
-                .remove(&(edge.target, edge.name, edge.source));
+            self.by_target.remove(&(edge.target, edge.name, edge.source));
         }
     }
 
@@ -136,16 +115,10 @@ impl Drawing {
             target,
         };
         let outward = self.edges.range(edge_from(first)..=edge_from(last));
-        let inward = self
-            .by_target
-            .range((number, first.0, first.1)..=(number, last.0, last.1));
+        let inward = self.by_target.range((number, first.0, first.1)..=(number, last.0, last.1));
         outward
             .copied()
-            .chain(inward.map(|&(target, name, source)| Edge {
-                source,
-                name,
-                target,
-            }))
+            .chain(inward.map(|&(target, name, source)| Edge { source, name, target }))
             .collect()
     }
 
@@ -153,19 +126,13 @@ impl Drawing {
     /// 9, 10, 11 are tried at each new node in turn". No two of the edges may be the same.
     ///
     /// "A new node's number is the largest number standing plus 1, or 0 in an empty drawing."
-    pub(crate) fn add_new_node(
-        &mut self,
-        class: ClassNumber,
-        edges: &[(NameNumber, NodeNumber)],
-    ) -> Result<(), Refused> {
+    pub(crate) fn add_new_node(&mut self, class: ClassNumber, edges: &[(NameNumber, NodeNumber)]) -> Result<(), Refused> {
         if self.nodes.len() >= MOST_NODES {
             return Err(Cause::NodeLimit.refused());
         }
         let number = match self.nodes.last_key_value() {
             None => 0,
-            Some((largest, _)) => largest
-                .checked_add(1)
-                .ok_or_else(|| Cause::NumberLimit.refused())?,
+            Some((largest, _)) => largest.checked_add(1).ok_or_else(|| Cause::NumberLimit.refused())?,
         };
         if self.edges.len() + edges.len() > MOST_EDGES {
             return Err(Cause::EdgeLimit.refused());

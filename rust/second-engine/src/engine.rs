@@ -193,9 +193,6 @@ impl Session {
     fn smallest_matching(&self, rule: &Rule, after: Option<&[u64]>) -> Option<Vec<u64>> {
         let widen = |matching: &[NodeNumber]| matching.iter().map(|&node| node.into()).collect();
         // The first matching visited ends the walk.
-        visit_matchings(&rule.pattern, &self.drawing, after, |matching| {
-            Err(widen(matching))
-        })
-        .err()
+        visit_matchings(&rule.pattern, &self.drawing, after, |matching| Err(widen(matching))).err()
     }
 }

@@ -6,10 +6,7 @@
 use crate::drawing::{Drawing, Edge, Node, NodeNumber, MOST_EDGES, MOST_NODES};
 use crate::lines;
 use crate::refusal::{Cause, Refused};
-use crate::scheme::{
-    ClassKind, ClassNumber, NameKind, NameNumber, Scheme, Triple, LARGEST_CLASS, LARGEST_NAME,
-    MOST_TRIPLES,
-};
+use crate::scheme::{ClassKind, ClassNumber, NameKind, NameNumber, Scheme, Triple, LARGEST_CLASS, LARGEST_NAME, MOST_TRIPLES};
 use std::collections::BTreeSet;
 use std::fmt;
 
@@ -86,11 +83,7 @@ impl Line {
             b"edge" => {
                 let [source, label, target] = lines::numbers(rest)?;
                 let name = name(label)?;
-                Line::Edge(Edge {
-                    source,
-                    name,
-                    target,
-                })
+                Line::Edge(Edge { source, name, target })
             }
             _ => return None,
         })
@@ -155,9 +148,7 @@ impl Reader {
         match *line {
             Line::Class(..) | Line::Name(..) => true,
             Line::May((source, name, target)) => {
-                self.scheme.has_class(source)
-                    && self.scheme.has_name(name)
-                    && self.scheme.has_class(target)
+                self.scheme.has_class(source) && self.scheme.has_name(name) && self.scheme.has_class(target)
             }
             Line::Node(_, node) => self.scheme.has_class(node.class),
             Line::Edge(edge) => {
@@ -187,8 +178,7 @@ impl Reader {
                     let mut targets = self.drawing.targets(edge.source, edge.name, 0);
                     targets.next().is_some()
                 };
-                self.is_permitted(edge)
-                    && !(self.scheme.is_functional(edge.name) && source_has_one())
+                self.is_permitted(edge) && !(self.scheme.is_functional(edge.name) && source_has_one())
             }
         }
     }

@@ -9,10 +9,7 @@ use crate::refusal::{Cause, Refused};
 /// number of lines. The first cause that `accept` finds refuses the text at the line it was found.
 ///
 /// What stands after the last byte 10 is a line that isn't ended, and so is out of form.
-pub(crate) fn read(
-    text: &[u8],
-    mut accept: impl FnMut(&[u8]) -> Result<(), Cause>,
-) -> Result<u64, Refused> {
+pub(crate) fn read(text: &[u8], mut accept: impl FnMut(&[u8]) -> Result<(), Cause>) -> Result<u64, Refused> {
     let mut number = 0;
     for piece in text.split_inclusive(|&byte| byte == b'\n') {
         number += 1;
@@ -54,7 +51,5 @@ fn number(digits: &[u8]) -> Option<u16> {
 
 /// The number, if it is in the range 0..largest.
 pub(crate) fn up_to(largest: u8, number: u16) -> Option<u8> {
-    u8::try_from(number)
-        .ok()
-        .filter(|&number| number <= largest)
+    u8::try_from(number).ok().filter(|&number| number <= largest)
 }

@@ -26,12 +26,7 @@ pub(crate) fn run(rule: &Rule, scheme: &Scheme, old: &Drawing) -> Result<(Drawin
 
 /// "In rising order, a matching for which no K node, old or just added, has all the arm edges to
 /// its images gets a new K node with exactly those edges."
-fn add_nodes(
-    pattern: &Pattern,
-    old: &Drawing,
-    class: ClassNumber,
-    arms: &[Arm],
-) -> Result<(Drawing, u64), Refused> {
+fn add_nodes(pattern: &Pattern, old: &Drawing, class: ClassNumber, arms: &[Arm]) -> Result<(Drawing, u64), Refused> {
     let mut new = old.clone();
     let mut edges = Vec::with_capacity(arms.len());
     let matchings = try_visit_all(pattern, old, |matching| {
@@ -47,35 +42,22 @@ fn add_nodes(
 }
 
 /// Whether a node of the class has all these edges, and perhaps more.
-fn has_node_with(
-    drawing: &Drawing,
-    class: ClassNumber,
-    edges: &[(NameNumber, NodeNumber)],
-) -> bool {
+fn has_node_with(drawing: &Drawing, class: ClassNumber, edges: &[(NameNumber, NodeNumber)]) -> bool {
     let Some((&(name, target), others)) = edges.split_first() else {
         return drawing.nodes_of(class, 0).next().is_some();
     };
     drawing.sources(target, name, 0).any(|source| {
         let node = drawing.nodes().get(&source);
         node.is_some_and(|node| node.class == class)
-            && others.iter().all(|&(name, target)| {
-                drawing.edges().contains(&Edge {
-                    source,
-                    name,
-                    target,
-                })
-            })
+            && others
+                .iter()
+                .all(|&(name, target)| drawing.edges().contains(&Edge { source, name, target }))
     })
 }
 
 /// "The images of all matchings are joined to the edges." Of the two causes that may come up, "11
 /// before 12": the edges must all be there before 12 is looked for.
-fn add_edges(
-    pattern: &Pattern,
-    old: &Drawing,
-    scheme: &Scheme,
-    edges: &[PatternEdge],
-) -> Result<(Drawing, u64), Refused> {
+fn add_edges(pattern: &Pattern, old: &Drawing, scheme: &Scheme, edges: &[PatternEdge]) -> Result<(Drawing, u64), Refused> {
     let mut new = old.clone();
     let matchings = try_visit_all(pattern, old, |matching| {
         for edge in edges {
@@ -99,9 +81,7 @@ fn node_with_two_edges(drawing: &Drawing, scheme: &Scheme) -> Option<NodeNumber>
     let edges = drawing.edges().iter();
     let mut neighbours = edges.clone().zip(edges.skip(1));
     neighbours
-        .find(|(one, next)| {
-            one.source == next.source && one.name == next.name && scheme.is_functional(one.name)
-        })
+        .find(|(one, next)| one.source == next.source && one.name == next.name && scheme.is_functional(one.name))
         .map(|(edge, _)| edge.source)
 }
 
@@ -149,10 +129,7 @@ fn add_groups(pattern: &Pattern, old: &Drawing, group: &Group) -> Result<(Drawin
     let mut new = old.clone();
     for members in groups {
         if !served.contains(&members) {
-            let edges: Vec<_> = members
-                .into_iter()
-                .map(|member| (group.joining, member))
-                .collect();
+            let edges: Vec<_> = members.into_iter().map(|member| (group.joining, member)).collect();
             new.add_new_node(group.class, &edges)?;
         }
     }
@@ -169,11 +146,7 @@ fn images_of(pattern: &Pattern, drawing: &Drawing, node: usize) -> (BTreeSet<Nod
 }
 
 /// Visits every matching in rising order and counts them, unless `visit` fails.
-fn try_visit_all<E>(
-    pattern: &Pattern,
-    drawing: &Drawing,
-    mut visit: impl FnMut(&[NodeNumber]) -> Result<(), E>,
-) -> Result<u64, E> {
+fn try_visit_all<E>(pattern: &Pattern, drawing: &Drawing, mut visit: impl FnMut(&[NodeNumber]) -> Result<(), E>) -> Result<u64, E> {
     let mut matchings = 0;
     visit_matchings(pattern, drawing, None, |matching| {
         matchings += 1;

@@ -251,8 +251,9 @@ impl Reader<'_> {
             (Line::Pnode(_), _) => self.pattern.nodes.len() < MOST_PATTERN_NODES,
             (Line::Pedge(_), _) => self.pattern.edges.len() < MOST_PATTERN_EDGES,
             (Line::Arm(_), Some(Action::AddNode { arms, .. })) => arms.len() < MOST_ARMS,
-            (Line::Put(_), Some(Action::AddEdges(edges)))
-            | (Line::Cut(_), Some(Action::DeleteEdges(edges))) => edges.len() < MOST_ACTION_EDGES,
+            (Line::Put(_), Some(Action::AddEdges(edges))) | (Line::Cut(_), Some(Action::DeleteEdges(edges))) => {
+                edges.len() < MOST_ACTION_EDGES
+            }
             _ => true,
         }
     }
@@ -267,33 +268,22 @@ impl Reader<'_> {
             Line::Pnode(node) => has_class(node.class),
             Line::Make(class) => has_class(class),
             Line::Arm(arm) => has_name(arm.name) && has_node(arm.node),
-            Line::Pedge(edge) | Line::Put(edge) | Line::Cut(edge) => {
-                has_node(edge.source) && has_name(edge.name) && has_node(edge.target)
-            }
+            Line::Pedge(edge) | Line::Put(edge) | Line::Cut(edge) => has_node(edge.source) && has_name(edge.name) && has_node(edge.target),
             Line::Drop(node) => has_node(node),
-            Line::Group(group) => {
-                has_node(group.node)
-                    && has_class(group.class)
-                    && has_name(group.compared)
-                    && has_name(group.joining)
-            }
+            Line::Group(group) => has_node(group.node) && has_class(group.class) && has_name(group.compared) && has_name(group.joining),
         }
     }
 
     /// Cause 4: the pattern "conforms as a drawing does, but a value may be left out".
     fn conforms(&self, line: &Line) -> bool {
         match *line {
-            Line::Pnode(node) => {
-                node.value.is_none()
-                    || !(self.scheme.is_object(node.class) || self.pattern.nodes.contains(&node))
-            }
+            Line::Pnode(node) => node.value.is_none() || !(self.scheme.is_object(node.class) || self.pattern.nodes.contains(&node)),
             Line::Pedge(edge) => {
                 let source_has_one = || {
                     let mut others = self.pattern.edges.iter();
                     others.any(|other| other.source == edge.source && other.name == edge.name)
                 };
-                self.is_permitted(edge)
-                    && !(self.scheme.is_functional(edge.name) && source_has_one())
+                self.is_permitted(edge) && !(self.scheme.is_functional(edge.name) && source_has_one())
             }
             _ => true,
         }
@@ -305,10 +295,7 @@ impl Reader<'_> {
         match (line, &self.action) {
             (&Line::Make(class), _) => self.scheme.is_object(class),
             (Line::Arm(arm), Some(Action::AddNode { class, .. })) => {
-                self.scheme.is_functional(arm.name)
-                    && self
-                        .scheme
-                        .permits(*class, arm.name, self.class_of(arm.node))
+                self.scheme.is_functional(arm.name) && self.scheme.permits(*class, arm.name, self.class_of(arm.node))
             }
             (&Line::Put(edge), _) => self.is_permitted(edge),
             (Line::Cut(edge), _) => self.pattern.edges.contains(edge),
@@ -316,9 +303,7 @@ impl Reader<'_> {
                 self.scheme.is_object(group.class)
                     && self.scheme.is_multivalued(group.compared)
                     && self.scheme.is_multivalued(group.joining)
-                    && self
-                        .scheme
-                        .permits(group.class, group.joining, self.class_of(group.node))
+                    && self.scheme.permits(group.class, group.joining, self.class_of(group.node))
             }
             _ => true,
         }
@@ -345,13 +330,9 @@ impl Reader<'_> {
             (Line::Pnode(node), _) => self.pattern.nodes.push(node),
             (Line::Pedge(edge), _) => self.pattern.edges.push(edge),
             (Line::Arm(arm), Some(Action::AddNode { arms, .. })) => arms.push(arm),
-            (Line::Put(edge), Some(Action::AddEdges(edges)))
-            | (Line::Cut(edge), Some(Action::DeleteEdges(edges))) => edges.push(edge),
+            (Line::Put(edge), Some(Action::AddEdges(edges))) | (Line::Cut(edge), Some(Action::DeleteEdges(edges))) => edges.push(edge),
             (Line::Make(class), action) => {
-                *action = Some(Action::AddNode {
-                    class,
-                    arms: Vec::new(),
-                });
+                *action = Some(Action::AddNode { class, arms: Vec::new() });
             }
             (Line::Put(edge), action) => *action = Some(Action::AddEdges(vec![edge])),
             (Line::Drop(node), action) => *action = Some(Action::DeleteNode(node)),

@@ -88,12 +88,7 @@ impl Scheme {
     }
 
     /// Whether an edge of this name may lead from the one class to the other.
-    pub(crate) fn permits(
-        &self,
-        source: ClassNumber,
-        name: NameNumber,
-        target: ClassNumber,
-    ) -> bool {
+    pub(crate) fn permits(&self, source: ClassNumber, name: NameNumber, target: ClassNumber) -> bool {
         self.permitted.contains(&(source, name, target))
     }
 }

@@ -5,8 +5,7 @@ use second_engine::{Counts, Engine, Opened, Refused};
 const J: &str = "class=0,0\nclass=1,1\nname=0,0\nname=1,1\nmay=0,0,1\nmay=0,1,0\n\
     node=3,0,0\nnode=5,0,0\nnode=6,1,600\nedge=3,0,6\nedge=3,1,5\n";
 
-const R: &str =
-    "op=2\npnode=0,0,0\npnode=0,0,0\npnode=1,0,0\npedge=0,0,2\npedge=0,1,1\nput=1,0,2\n";
+const R: &str = "op=2\npnode=0,0,0\npnode=0,0,0\npnode=1,0,0\npedge=0,0,2\npedge=0,1,1\nput=1,0,2\n";
 
 /// The empty pattern alone: counts one matching and keeps a copy.
 const NOTHING: &str = "op=0\n";
@@ -110,9 +109,7 @@ fn field(nodes: u32, edges: u32) -> String {
     let scheme = "class=0,0\nname=0,0\nname=1,1\nmay=0,0,0\nmay=0,1,0\n".to_string();
     scheme
         + &lines(0..nodes, |number| format!("node={number},0,0"))
-        + &lines(0..edges, |number| {
-            format!("edge={},1,{}", number / nodes, number % nodes)
-        })
+        + &lines(0..edges, |number| format!("edge={},1,{}", number / nodes, number % nodes))
 }
 
 // The bench examples.
@@ -120,10 +117,7 @@ fn field(nodes: u32, edges: u32) -> String {
 #[test]
 fn e1_edge_addition() {
     let mut engine = Engine::new();
-    let report = Opened {
-        classes: 2,
-        names: 2,
-    };
+    let report = Opened { classes: 2, names: 2 };
     assert_eq!(engine.open(J.as_bytes()), Ok(report));
     assert_eq!(engine.apply(R.as_bytes()), done([1, 0, 1, 0, 0]));
     assert_eq!(saved(&engine), J.to_string() + "edge=5,0,6\n");
@@ -138,11 +132,7 @@ fn e2_two_free_nodes() {
 #[test]
 fn e3_empty_pattern() {
     assert_eq!(listing(&opened(J), NOTHING), [[0; 0]]);
-    assert_eq!(
-        run(J, NOTHING, [1, 0, 0, 0, 0]),
-        drawing_lines(J),
-        "a pattern only changes nothing"
-    );
+    assert_eq!(run(J, NOTHING, [1, 0, 0, 0, 0]), drawing_lines(J), "a pattern only changes nothing");
 }
 
 #[test]
@@ -302,15 +292,9 @@ fn matchings_with_loops_and_edges_both_ways() {
     let lone_loop = "op=0\npnode=0,0,0\npedge=0,1,0\n";
     assert_eq!(listing(&engine, lone_loop), [[1], [4]]);
     let both_ways = "op=0\npnode=0,0,0\npnode=0,0,0\npedge=0,1,1\npedge=1,1,0\n";
-    assert_eq!(
-        listing(&engine, both_ways),
-        [[1, 1], [1, 2], [2, 1], [4, 4]]
-    );
+    assert_eq!(listing(&engine, both_ways), [[1, 1], [1, 2], [2, 1], [4, 4]]);
     let backwards = "op=0\npnode=0,0,0\npnode=0,0,0\npedge=1,1,0\n";
-    assert_eq!(
-        listing(&engine, backwards),
-        [[1, 1], [1, 2], [2, 1], [4, 2], [4, 4]]
-    );
+    assert_eq!(listing(&engine, backwards), [[1, 1], [1, 2], [2, 1], [4, 2], [4, 4]]);
 }
 
 // Files.
@@ -318,10 +302,7 @@ fn matchings_with_loops_and_edges_both_ways() {
 #[test]
 fn empty_text_opens() {
     let mut engine = Engine::new();
-    let report = Opened {
-        classes: 0,
-        names: 0,
-    };
+    let report = Opened { classes: 0, names: 0 };
     assert_eq!(engine.open(b""), Ok(report));
     assert_eq!(saved(&engine), "");
     assert_eq!(engine.apply(b"op=0\n"), done([1, 0, 0, 0, 0]));
@@ -445,9 +426,7 @@ fn drawing_keys_in_turn_and_order() {
     refuse_file(&format!("{scheme}{nodes}edge=1,1,2\nedge=1,1,2\n"), 1, 10);
     refuse_file(&format!("{scheme}{nodes}edge=1,1,2\nedge=1,1,1\n"), 1, 10);
     refuse_file(&format!("{scheme}{nodes}edge=2,1,1\nedge=1,1,2\n"), 1, 10);
-    opened(&format!(
-        "{scheme}{nodes}edge=1,1,1\nedge=1,1,2\nedge=2,1,1\n"
-    ));
+    opened(&format!("{scheme}{nodes}edge=1,1,1\nedge=1,1,2\nedge=2,1,1\n"));
 }
 
 #[test]
@@ -477,9 +456,7 @@ fn drawing_conforms() {
     refuse_file(&format!("{scheme}{nodes}edge=0,0,2\n"), 4, 14);
     refuse_file(&format!("{scheme}{nodes}edge=2,0,0\n"), 4, 14);
     refuse_file(&format!("{scheme}{nodes}edge=0,0,0\nedge=0,0,1\n"), 4, 15);
-    opened(&format!(
-        "{scheme}{nodes}edge=0,0,0\nedge=0,1,0\nedge=0,1,1\nedge=1,0,0\n"
-    ));
+    opened(&format!("{scheme}{nodes}edge=0,0,0\nedge=0,1,0\nedge=0,1,1\nedge=1,0,0\n"));
     // The first class line may declare a value class.
     opened("class=0,1\nclass=1,0\nname=0,0\nmay=1,0,0\nmay=1,0,1\n");
 }
@@ -604,13 +581,9 @@ fn rule_keys_in_turn_and_order() {
 #[test]
 fn rule_limits() {
     let nodes = "pnode=0,0,0\n".repeat(6);
-    let edges = lines(0..8, |number| {
-        format!("pedge={},1,{}", number / 6, number % 6)
-    });
+    let edges = lines(0..8, |number| format!("pedge={},1,{}", number / 6, number % 6));
     let mut engine = opened(J);
-    assert!(engine
-        .apply(format!("op=0\n{nodes}{edges}").as_bytes())
-        .is_ok());
+    assert!(engine.apply(format!("op=0\n{nodes}{edges}").as_bytes()).is_ok());
     refuse_text(J, &format!("op=0\n{nodes}pnode=0,0,0\n"), 2, 8);
     refuse_text(J, &format!("op=0\n{nodes}pnode=9,0,0\n"), 2, 8);
     refuse_text(J, &format!("op=0\n{nodes}pnode=0,0,5\n"), 1, 8);
@@ -618,14 +591,10 @@ fn rule_limits() {
     refuse_text(J, &format!("op=0\n{nodes}{edges}pedge=2,9,0\n"), 2, 16);
     refuse_text(J, &format!("op=0\n{nodes}{edges}pedge=0,1,0\n"), 1, 16);
     let puts = lines(0..4, |number| format!("put=0,1,{number}"));
-    assert!(engine
-        .apply(format!("op=2\n{nodes}{puts}").as_bytes())
-        .is_ok());
+    assert!(engine.apply(format!("op=2\n{nodes}{puts}").as_bytes()).is_ok());
     refuse_text(J, &format!("op=2\n{nodes}{puts}put=0,9,5\n"), 2, 12);
     let cuts = lines(0..4, |number| format!("cut=0,1,{number}"));
-    assert!(engine
-        .apply(format!("op=4\n{nodes}{edges}{cuts}").as_bytes())
-        .is_ok());
+    assert!(engine.apply(format!("op=4\n{nodes}{edges}{cuts}").as_bytes()).is_ok());
     refuse_text(J, &format!("op=4\n{nodes}{edges}{cuts}cut=0,1,4\n"), 2, 20);
     let names = lines(0..5, |name| format!("name={name},0"));
     let mays = lines(0..5, |name| format!("may=0,{name},0"));
@@ -633,10 +602,7 @@ fn rule_limits() {
     let arms = lines(0..4, |name| format!("arm={name},0"));
     let rule = format!("op=1\npnode=0,0,0\nmake=0\n{arms}");
     let new = run(&file, &rule, [1, 1, 4, 0, 0]);
-    assert_eq!(
-        new,
-        "node=0,0,0 node=1,0,0 edge=1,0,0 edge=1,1,0 edge=1,2,0 edge=1,3,0"
-    );
+    assert_eq!(new, "node=0,0,0 node=1,0,0 edge=1,0,0 edge=1,1,0 edge=1,2,0 edge=1,3,0");
     refuse_text(&file, &(rule.clone() + "arm=4,0\n"), 2, 8);
     refuse_text(&file, &(rule + "arm=9,0\n"), 2, 8);
 }
@@ -757,11 +723,7 @@ fn node_addition_sees_nodes_just_added_as_servers_only() {
 fn a_serving_node_may_have_further_edges_but_must_have_all() {
     let file = "class=0,0\nclass=1,1\nname=0,0\nname=1,0\nmay=0,0,1\nmay=0,1,1\n\
         node=0,1,5\nnode=1,0,0\nedge=1,0,0\n";
-    run(
-        file,
-        "op=1\npnode=1,0,0\nmake=0\narm=0,0\n",
-        [1, 0, 0, 0, 0],
-    );
+    run(file, "op=1\npnode=1,0,0\nmake=0\narm=0,0\n", [1, 0, 0, 0, 0]);
     let both = "op=1\npnode=1,0,0\nmake=0\narm=0,0\narm=1,0\n";
     let new = run(file, both, [1, 1, 2, 0, 0]);
     assert!(new.ends_with("edge=1,0,0 edge=2,0,0 edge=2,1,0"));
@@ -784,14 +746,10 @@ fn the_257th_node_and_the_513th_edge() {
     let high = |file: String, last: &str| file.replace(&format!("node={last},"), "node=65535,");
     refuse_run(&high(field(256, 0), "255"), grow, 9, 0);
     refuse_run(&high(field(200, 0), "199"), grow, 10, 0);
-    let full = lines(0..512, |number| {
-        format!("edge={},1,{}", number / 32, number % 32)
-    });
+    let full = lines(0..512, |number| format!("edge={},1,{}", number / 32, number % 32));
     refuse_run(&(high(field(33, 0), "32") + &full), grow, 10, 0);
     // Each new node in turn: the first passes the edges before the last would pass the nodes.
-    let full = lines(0..512, |number| {
-        format!("edge={},1,{}", number / 129, number % 129)
-    });
+    let full = lines(0..512, |number| format!("edge={},1,{}", number / 129, number % 129));
     refuse_run(&(field(129, 0) + &full), grow, 11, 0);
 }
 
@@ -836,10 +794,7 @@ fn deletions() {
     let all = "op=3\npnode=0,0,0\npnode=0,0,0\ndrop=1\n";
     assert_eq!(run(file, all, [4, 0, 0, 2, 4]), "node=3,1,0");
     let cut = "op=4\npnode=0,0,0\npnode=0,0,0\npedge=0,1,1\npedge=1,1,0\ncut=0,1,1\n";
-    assert_eq!(
-        run(file, cut, [3, 0, 0, 0, 3]),
-        "node=1,0,0 node=2,0,0 node=3,1,0 edge=1,1,3"
-    );
+    assert_eq!(run(file, cut, [3, 0, 0, 0, 3]), "node=1,0,0 node=2,0,0 node=3,1,0 edge=1,1,3");
     // The places are free at once: the largest number standing counts.
     let mut engine = opened(file);
     assert!(engine.apply(b"op=3\npnode=1,0,0\ndrop=0\n").is_ok());
