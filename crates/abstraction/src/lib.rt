@@ -1,4 +1,6 @@
 // Abstraction, of the images that are noted: new nodes for the groups that no old node serves.
+#![tactic(auto)]
+
 ghost use Rattle.std.specs.Prelude.{◌≡◌, true, ◌^◌, ◌<◌, ◌≤◌, length, take};
 ghost use Rattle.lists.specs.Lists.{Below};
 ghost use Rattle.model.specs.Limits;
@@ -15,7 +17,7 @@ use groups::{arms_led_by, numbers_of};
 use growth::{Changed, Verdict, add_node};
 
 // How far an instance has grown.
-#[derive(Drop)]
+#[derive(Clone, Copy)]
 pub struct Grown {
     pub verdict: Verdict,
     pub order: usize,

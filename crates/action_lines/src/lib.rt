@@ -1,4 +1,6 @@
 // A line of an action under the pattern above it: what it declares and suits, causes 3 and 5, by a function for each kind of line.
+#![tactic(auto)]
+
 ghost use Rattle.std.specs.Prelude.{◌≡◌, true, ◌&&◌, [], ◌<◌};
 ghost use Rattle.model.specs.Limits;
 ghost use Rattle.model.specs.Graph.{of_kind};

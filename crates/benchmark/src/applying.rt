@@ -15,7 +15,7 @@ use verdicts::Answer;
 
 // The refusal's number, 0 for none, and what is returned with it; what apply reports.
 #[repr(C)]
-#[derive(Drop)]
+#[derive(Clone, Copy)]
 pub struct Reply {
     pub refusal: u64,
     pub returned: u64,
@@ -24,7 +24,7 @@ pub struct Reply {
 
 // What the last application answered, and the instance after it.
 #[repr(C)]
-#[derive(Drop)]
+#[derive(Clone, Copy)]
 pub struct AppliedOver {
     pub reply: Reply,
     pub instance: PackedInstance,

@@ -1,4 +1,6 @@
 // The calls that change the session, by value: each takes it and gives it back beside the answer. Each is held to `Stepped`.
+#![tactic(auto)]
+
 ghost use Rattle.std.specs.Prelude.{[]};
 ghost use Rattle.model.specs.Record.{Open, Apply, Undo, Close};
 ghost use Rattle.model.specs.Answers.{open_answer, apply_answer, undo_answer, close_answer};
@@ -19,25 +21,25 @@ use session::Session;
 use verdicts::Answer;
 
 // What each call leaves: the answer, and the session.
-#[derive(Drop)]
+#[derive(Clone, Copy)]
 pub struct OpenLeft {
     pub answer: OpenAnswer,
     pub session: Session,
 }
 
-#[derive(Drop)]
+#[derive(Clone, Copy)]
 pub struct ApplyLeft {
     pub answer: ApplyAnswer,
     pub session: Session,
 }
 
-#[derive(Drop)]
+#[derive(Clone, Copy)]
 pub struct UndoLeft {
     pub answer: UndoAnswer,
     pub session: Session,
 }
 
-#[derive(Drop)]
+#[derive(Clone, Copy)]
 pub struct CloseLeft {
     pub answer: CloseAnswer,
     pub session: Session,

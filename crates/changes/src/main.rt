@@ -1,46 +1,57 @@
 // Reads the files that its arguments name, two by two: a drawing file and a rule text. It prints the two names, and then what program trial prints of
 // the two files. A file that can't be read is named on standard error, and its pair is passed over.
+#![tactic(auto)]
+
+use files::{argument, load};
+use std::io;
+use std::rt::Files;
 use trials::{PRINTED, job_room, rule_room, write_trial};
 
 // No name of a file has more bytes.
-const NAME: usize = libc::PATH_MAX;
+const NAME: usize = 4096;
 
-fn print_name(name: &[u8]) {
-    io::write_all(libc::STDOUT_FILENO, name);
-    io::write_all(libc::STDOUT_FILENO, b" ");
+fn print_name(rt: &impl Print, name: &[u8]) -> io::Result<()> {
+    rt.write_all(name)?;
+    rt.write_all(b" ")
 }
 
-fn print_trial(job: &[u8], rule: &[u8]) {
+fn print_trial(rt: &impl Print, job: &[u8], rule: &[u8]) -> io::Result<()> {
     let mut text = [0u8; PRINTED];
     let length = write_trial(job, rule, &mut text);
-    io::write_all(libc::STDOUT_FILENO, &text[..length]);
+    rt.write_all(&text[..length])
 }
 
-fn show_pair(first: usize, second: usize) {
-    let mut job_name = [0u8; NAME];
-    let job_named = os::arg(first, &mut job_name);
-    let mut rule_name = [0u8; NAME];
-    let rule_named = os::arg(second, &mut rule_name);
+fn show_pair(
+    rt: &(impl Files + Print + Eprint),
+    job_name: &[u8],
+    rule_name: &[u8],
+) -> io::Result<()> {
     let mut job = job_room();
-    let drawing = files::load(&job_name[..job_named], &mut job);
+    let drawing = load(rt, job_name, &mut job);
     let mut rule = rule_room();
-    let action = files::load(&rule_name[..rule_named], &mut rule);
+    let action = load(rt, rule_name, &mut rule);
     if !drawing.readable {
-        return;
+        return Ok(());
     }
     if !action.readable {
-        return;
+        return Ok(());
     }
-    print_name(&job_name[..job_named]);
-    print_name(&rule_name[..rule_named]);
-    print_trial(&job[..drawing.length], &rule[..action.length]);
+    print_name(rt, job_name)?;
+    print_name(rt, rule_name)?;
+    print_trial(rt, &job[..drawing.length], &rule[..action.length])
 }
 
-fn main() {
-    let arguments = os::arg_count();
-    let mut i = 0;
-    while 2 < arguments - i {
-        show_pair(i + 1, i + 2);
-        i += 2;
+fn main(rt: HostRuntime) -> io::Result<()> {
+    for i in 0..usize::MAX / 2 {
+        let mut job_name = [0u8; NAME];
+        let Some(job_named) = argument(&rt, 2 * i + 1, &mut job_name) else {
+            break
+        };
+        let mut rule_name = [0u8; NAME];
+        let Some(rule_named) = argument(&rt, 2 * i + 2, &mut rule_name) else {
+            break
+        };
+        show_pair(&rt, &job_name[..job_named], &rule_name[..rule_named])?;
     }
+    Ok(())
 }

@@ -1,4 +1,6 @@
 // Node deletion and edge deletion, of what is noted: keys that go are taken out of rising keys in one pass.
+#![tactic(auto)]
+
 ghost use Rattle.std.specs.Prelude.{◌≡◌, true, not, [], ◌^◌, ◌≤◌, length, take};
 ghost use Rattle.lists.specs.Lists.{keep, Below};
 ghost use Rattle.keys.specs.Keys.{keys_rise, Front};

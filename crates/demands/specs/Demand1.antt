@@ -1,17 +1,13 @@
 -- Demand 1: any file, rule or call, in any order, gets a finished answer or a numbered refusal, and a refusal changes nothing, neither session nor
--- lent buffers. That each call ends is part of its proof; what it answers, and what a refusal leaves, is said here.
+-- lent buffers. That each call ends is part of its proof; what it answers, and what a refusal leaves, is said here, and proved in proofs/Demand1.
 use Rattle.std.specs.Prelude.{ℕ, ◌≤◌, ◌≡◌, ◌↔◌, List}
-use Rattle.std.proofs.Common.{◌∙◌, sym}
 use Rattle.model.specs.Refusals.{Outcome, refused, table_row}
 use Rattle.model.specs.Record.{Call, Report, lent}
 use Rattle.model.specs.Causes.{Cause}
-use Rattle.model.specs.Laws.Calls.{refused-changes-nothing, refusal-numbered}
-use Rattle.model.specs.Laws.Refusals.{refused-exactly}
 use Rattle.model.specs.declared.Refusal.{Refusal}
 use Rattle.session.specs.Sessions.{unpack_session, StoredSession, Stepped}
 use Rattle.session.specs.declared.Session.{Session}
 use Rattle.demands.specs.Reached.{Reached}
-use Rattle.demands.specs.Laws.Chains.{reached-stored, reached-sound}
 
 -- one of the table's fourteen refusals; session and buffer are as they were
 pub record Declined (call : Call) (before : Session) (x : Refusal) (buffer : List ℕ) (after : Session) : Type 0 where
@@ -24,19 +20,11 @@ pub record Demand1 (call : Call) (before : Session) (answer : Outcome Report) (b
   pub exactly : (x : Refusal) → (answer ≡ refused x) ↔ Cause (unpack_session before) call x
   pub declined : (x : Refusal) → answer ≡ refused x → Declined call before x buffer after
 
--- in any order: whatever calls were made, the next one's `requires` holds
-pub demand-1-order : {now : Session} → Reached now → StoredSession now
-demand-1-order h = reached-stored h
+-- `demand-1-order`, in any order: whatever calls were made, the next one's `requires` holds
+abbrev pub Demand1Order : Type 0
+Demand1Order = (now : Session) → Reached now → StoredSession now
 
-pub demand-1 : {call : Call} {before : Session} {answer : Outcome Report} {buffer : List ℕ} {after : Session}
+-- `demand-1`: so does each call, in every session that calls can leave
+abbrev pub Demand1Promise : Type 0
+Demand1Promise = (call : Call) (before : Session) (answer : Outcome Report) (buffer : List ℕ) (after : Session)
     → Reached before → Stepped call before answer buffer after → Demand1 call before answer buffer after
-demand-1 {call} {before} h stepped =
-    let r = unpack_session before in
-    record {
-      exactly = λ x. rw stepped.answers (refused-exactly r call x (reached-sound h));
-      declined = λ x e. record {
-        numbered = refusal-numbered x;
-        session = stepped.unchanged x e;
-        buffers = stepped.lent ∙ (refused-changes-nothing r call (sym stepped.answers ∙ e)).buffer;
-      };
-    }

@@ -1,6 +1,6 @@
 -- Demand 3: after any list of calls, of every length, session and answers equal the plain record's; an open drawing conforms; listing a pattern names
--- every matching exactly once, in rising order, and nothing else.
-use Rattle.std.specs.Prelude.{ℕ, ◌^◌, ◌≡◌, refl, ◌↔◌, true, List, [], ◌∷◌}
+-- every matching exactly once, in rising order, and nothing else. Proved in proofs/Demand3.
+use Rattle.std.specs.Prelude.{ℕ, ◌^◌, ◌≡◌, ◌↔◌, true, List, [], ◌∷◌}
 use Rattle.lists.specs.Lists.{◌∈◌, keep, Below}
 use Rattle.lists.specs.Order.{same, rising}
 use Rattle.model.specs.Graph.{Scheme, Instance, Pattern, conforms}
@@ -10,14 +10,9 @@ use Rattle.model.specs.Operations.{Rule}
 use Rattle.model.specs.Refusals.{Outcome, accepted}
 use Rattle.model.specs.Files.RuleText.{read_rule}
 use Rattle.model.specs.Record.{shut, opened, Call, First, After, Report, run, ListingFrom}
-use Rattle.model.specs.Laws.Sound.{well-formed}
-use Rattle.model.specs.Laws.Matchings.{in-matchings, matching-once, matchings-rise}
 use Rattle.session.specs.Sessions.{unpack_session, NewSession, Stepped}
 use Rattle.session.specs.Chains.{Chain}
 use Rattle.session.specs.declared.Session.{Session}
-use Rattle.demands.specs.Reached.{reached}
-use Rattle.demands.specs.Laws.Chains.{new-runs, open-sound}
-use Rattle.demands.specs.Laws.Listings.{answered-listing}
 
 -- what first answers for a rule text, and after for each list of 64-bit numbers: by their contracts
 pub record Answering (s : Session) (text : List ℕ) (first : Outcome Report) (after : List ℕ → Outcome Report) : Type 0 where
@@ -44,26 +39,7 @@ pub record Demand3 (calls : List Call) (answers : List (Outcome Report)) (after 
   pub equals : record { state = unpack_session after; answers = answers } ≡ run shut calls
   pub when_open : (s : Scheme) (d : Instance) (cs : List Instance) → unpack_session after ≡ opened s d cs → OpenSession after s d
 
-pub demand-3 : {new after : Session} {calls : List Call} {answers : List (Outcome Report)}
+-- `demand-3`: so it is after every list of calls, each held to its contract, from a new session
+abbrev pub Demand3Promise : Type 0
+Demand3Promise = (new after : Session) (calls : List Call) (answers : List (Outcome Report))
     → NewSession new → Chain new calls answers after → Demand3 calls answers after
-demand-3 {after = after} begins chain =
-    record {
-      equals = new-runs begins chain;
-      when_open = λ s d cs is. record { conforming = (open-sound (reached begins chain) is).conforming; listing = lists-all is };
-    }
-  where
-    lists-all : {s : Scheme} {d : Instance} {cs : List Instance} → unpack_session after ≡ opened s d cs
-        → (text : List ℕ) (rule : Rule) → read_rule s text ≡ accepted rule
-        → (f : Outcome Report) (g : List ℕ → Outcome Report) → Answering after text f g → ListsAll f g rule.pattern d
-    lists-all {s} {d} {cs} is text rule reads f g h =
-        let sound = open-sound (reached begins chain) is in
-        let p = rule.pattern in
-        let rise = (well-formed s d sound).nodes-rise in
-        let listing = answered-listing sound rule cs text reads (rw is at h.firsts.answers) (λ l b. rw is at (h.afters l b).answers) in
-        record {
-          listed = (listing (matchings p d)).1 refl;
-          only = λ ms. (listing ms).0;
-          members = in-matchings p d;
-          once = λ m. matching-once p d m rise;
-          rise = matchings-rise p d rise;
-        }

@@ -4,7 +4,7 @@ use Rattle.lists.specs.Lists.{any}
 use Rattle.model.specs.Graph.{Triple, Scheme, Node, Instance, declares, is_object, is_value, is_functional, stands, permits}
 use Rattle.model.specs.Files.{Checks, checks, full}
 use Rattle.model.specs.Files.DrawingFile.{DrawingKey, class=, name=, may=, node=, edge=, drawing_form, drawing_format}
-use Rattle.model.specs.Laws.Lines.{LineInForm}
+use Rattle.model.specs.InForm.{LineInForm}
 use Rattle.forms.specs.Forms.{first_rule_kind, drawing_key}
 use Rattle.text.specs.Lines.{drawing_line, Tabled, follows_last}
 use Rattle.text.specs.declared.lines.Line.{Line}

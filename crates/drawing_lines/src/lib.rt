@@ -1,8 +1,10 @@
 // A line of a drawing file under what the lines above it hold: in its place, not one too many, and then as its own checks say.
+#![tactic(auto)]
+
 ghost use Rattle.std.specs.Prelude.{◌≡◌, true, List, [], ◌∷◌, map, ℕ, ◌<◌, ◌^◌};
 ghost use Rattle.lists.specs.Order.{rising};
 ghost use Rattle.model.specs.Files.DrawingFile.{drawing_format};
-ghost use Rattle.model.specs.Laws.Lines.{LineInForm};
+ghost use Rattle.model.specs.InForm.{LineInForm};
 ghost use Rattle.forms.specs.Forms.{first_rule_kind, drawing_key};
 ghost use Rattle.text.specs.Lines.{drawing_line};
 ghost use Rattle.graph.specs.Packed.{unpack_triple, triples_rise, unpack_node, scheme_of, instance_of};

@@ -1,4 +1,6 @@
 // Edge addition.
+#![tactic(auto)]
+
 ghost use Rattle.std.specs.Prelude.{◌≡◌, true, ◌≤◌, length};
 ghost use Rattle.keys.specs.Keys.{keys_rise};
 ghost use Rattle.lists.specs.Buffers.{at_front};

@@ -1,5 +1,7 @@
 // Runs: a node's edges of one name stand together in the rising edges, and their targets rise. So two sets of targets are the same if the two runs
 // have the same targets, one by one. A run is told by node and name, as one number.
+#![tactic(auto)]
+
 ghost use Rattle.std.specs.Prelude.{◌≡◌, true, map, ◌*◌, ◌%◌, ◌^◌, ◌<◌, ◌≤◌, length};
 ghost use Rattle.lists.specs.Lists.{any, Below};
 ghost use Rattle.lists.specs.Order.{same};

@@ -1,5 +1,7 @@
 // The engine's calls over a session that the caller holds: each passes it by value to the call of crate session, and stores what that leaves.
 // Demands 1 to 3 are said of `Stepped`, which every `ensures` states.
+#![tactic(auto)]
+
 ghost use Rattle.std.specs.Prelude.{[]};
 ghost use Rattle.model.specs.Record.{Open, Apply, Undo, Close, First, After, Save};
 ghost use Rattle.model.specs.Answers.{open_answer, apply_answer, undo_answer, close_answer, save_answer};

@@ -1,4 +1,6 @@
 // The table of forms: of each kind of line its key, how many numbers it has and their bounds, its order, and how many lines there may be.
+#![tactic(auto)]
+
 ghost use Rattle.std.specs.Prelude.{◌≡◌, ◌<◌};
 ghost use Rattle.forms.specs.Forms.{kind_count, kind_at, packed_form, key_number};
 
@@ -13,7 +15,7 @@ use graph::scheme::PackedScheme;
 // `key` is the key's bytes, `letters` in number, as one number after a 1, in base 256. A line's numbers are kept as one number, its row: `room`
 // is how many values a number has room for there. Lines of one kind rise by their rows divided by `by`; 0: in any order. `most` is 0 where
 // nothing limits them.
-#[derive(Drop)]
+#[derive(Clone, Copy)]
 pub struct Form {
     pub key: u64,
     pub letters: usize,

@@ -1,4 +1,2 @@
 -- What stored values mean, examples of it, and laws.
 pub mod Packed
-pub mod Examples
-pub mod Laws

@@ -10,7 +10,7 @@ use crate::packing::{KINDS, NUMBERS};
 
 // Bit n stands for number n. `second` are those of kind 1: value classes, or multivalued names.
 #[repr(C)]
-#[derive(Drop)]
+#[derive(Clone, Copy)]
 pub struct Declarations {
     pub declared: u64,
     pub second: u64,

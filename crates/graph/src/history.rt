@@ -5,7 +5,7 @@ use crate::instance::PackedInstance;
 
 // Newest first.
 #[repr(C)]
-#[derive(Drop)]
+#[derive(Clone, Copy)]
 pub struct History {
     pub copies: [PackedInstance; History::COPIES],
     pub depth: usize,

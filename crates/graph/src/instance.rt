@@ -9,7 +9,7 @@ use keys::place_dense;
 
 // A graph's order is its number of nodes, its size the number of its edges.
 #[repr(C)]
-#[derive(Drop)]
+#[derive(Clone, Copy)]
 pub struct PackedInstance {
     pub nodes: [u64; PackedInstance::NODES],
     pub order: usize,
@@ -34,7 +34,7 @@ impl PackedInstance {
     }
 }
 
-#[derive(Drop)]
+#[derive(Clone, Copy)]
 pub enum Found {
     At(u64),
     Nothing,

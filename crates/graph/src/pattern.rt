@@ -2,7 +2,7 @@
 ghost use Rattle.graph.specs.Packed.{FreshPattern};
 
 #[repr(C)]
-#[derive(Drop)]
+#[derive(Clone, Copy)]
 pub struct PackedPattern {
     pub nodes: [u64; PackedPattern::NODES],
     pub order: usize,

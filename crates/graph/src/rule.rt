@@ -5,7 +5,7 @@ use crate::pattern::PackedPattern;
 
 // `head` is the row of a make, drop or group line, `parts` are those of arm, put or cut lines.
 #[repr(C)]
-#[derive(Drop)]
+#[derive(Clone, Copy)]
 pub struct PackedAction {
     pub code: u64,
     pub head: u64,
@@ -44,7 +44,7 @@ impl PackedAction {
 }
 
 #[repr(C)]
-#[derive(Drop)]
+#[derive(Clone, Copy)]
 pub struct PackedRule {
     pub pattern: PackedPattern,
     pub action: PackedAction,

@@ -8,7 +8,7 @@ use crate::packing::{TRIPLE_NAME, TRIPLE_SOURCE};
 use keys::has_key;
 
 #[repr(C)]
-#[derive(Drop)]
+#[derive(Clone, Copy)]
 pub struct PackedScheme {
     pub classes: Declarations,
     pub names: Declarations,

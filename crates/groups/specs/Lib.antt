@@ -1,3 +1,2 @@
--- Groups of images, and laws of them.
+-- Groups of images.
 pub mod Groups
-pub mod Laws

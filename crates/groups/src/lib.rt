@@ -1,4 +1,6 @@
 // Groups of images with equal sets of targets, as arms to their members; and the nodes of a class, which may have a group as their targets.
+#![tactic(auto)]
+
 ghost use Rattle.std.specs.Prelude.{◌≡◌, true, ◌^◌, ◌<◌, ◌≤◌, length, drop};
 ghost use Rattle.lists.specs.Lists.{◌!◌};
 ghost use Rattle.keys.specs.Keys.{keys_rise, Front};

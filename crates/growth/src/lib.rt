@@ -1,4 +1,6 @@
 // A new node with its edges.
+#![tactic(auto)]
+
 ghost use Rattle.std.specs.Prelude.{◌≡◌, true, ◌++◌, map, ◌+◌, ◌*◌, ◌^◌, ◌<◌, ◌≤◌, length, take};
 ghost use Rattle.lists.specs.Lists.{Below};
 ghost use Rattle.keys.specs.Keys.{keys_rise};
@@ -10,14 +12,14 @@ use graph::instance::PackedInstance;
 use graph::packing::{NODE_CLASS, NODE_NUMBER, NODE_NUMBERS, TRIPLE_SOURCE};
 use model::Refusal;
 
-#[derive(Drop)]
+#[derive(Clone, Copy)]
 pub enum Verdict {
     Done,
     Refused(Refusal),
 }
 
 // What an operation makes of an instance. Where the verdict is a refusal, the instance beside it means nothing.
-#[derive(Drop)]
+#[derive(Clone, Copy)]
 pub struct Changed {
     pub verdict: Verdict,
     pub instance: PackedInstance,
@@ -36,6 +38,7 @@ fn next_number(nodes: &[u64]) -> u64
 }
 
 // "For new nodes 9, 10, 11 are tried at each new node in turn": `size` has the new node's edges.
+#[tactic(auto, unfolding(crate::specs::Growth::verdict_for))]
 fn room_for(order: usize, number: u64, size: usize) -> Verdict
     ensures { result ≡ verdict_for order number size }
 {

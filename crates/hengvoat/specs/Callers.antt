@@ -1,36 +1,12 @@
 -- What a caller may conclude from a result alone, whatever language it is written in: the first two numbers are those of the record's own answer, and
--- where the first is not 0, session and buffer are as they were. It holds of every exported call, by the law of its result (`results`: `Laws/Numbers`).
-use Rattle.std.specs.Prelude.{ℕ, ◌≡◌, refl, List}
-use Rattle.std.proofs.Common.{ap, ◌∙◌, sym}
-use Rattle.model.specs.Refusals.{Outcome, accepted, refused}
-use Rattle.model.specs.Record.{Call, Report, lent, step}
-use Rattle.model.specs.Laws.Calls.{refused-changes-nothing}
+-- where the first is not 0, session and buffer are as they were. It holds of every exported call, by the law of its result (`results`: `Laws/Numbers`): theorem `exported-told`, proofs/Callers.antt.
+use Rattle.std.specs.Prelude.{ℕ, ◌≡◌, List}
+use Rattle.model.specs.Record.{Call, lent, step}
 use Rattle.session.specs.Sessions.{unpack_session}
 use Rattle.session.specs.declared.Session.{Session}
-use Rattle.results.specs.Results.{row_of, Numbered}
-use Rattle.hengvoat.specs.Exports.{Exports}
+use Rattle.results.specs.Results.{row_of}
 
 pub record Told (call : Call) (before : Session) (refusal returned : ℕ) (buffer : List ℕ) (after : Session) : Type 0 where
   pub number : refusal ≡ (row_of (step (unpack_session before) call).answer).number
   pub returns : returned ≡ (row_of (step (unpack_session before) call).answer).returned
   pub unchanged : (refusal ≡ 0 → ⊥) → (after ≡ before) × (buffer ≡ lent call)
-
-pub exported-told : {Answer Result : Type 0} {tell : Answer → Outcome Report} {numbers : Answer → Result} (refusal returned : Result → ℕ)
-    {call : Call} {before : Session} {r : Result} {buffer : List ℕ} {after : Session}
-    → Numbered tell numbers refusal returned → Exports tell numbers call before r buffer after → Told call before (refusal r) (returned r) buffer after
-exported-told {tell = tell} refusal returned {call} {before} {r} {buffer} {after} numbered e =
-    record {
-      number = number;
-      returns = ap returned e.tells ∙ (numbered e.answer).1 ∙ ap (λ o. (row_of o).returned) e.stepped.answers;
-      unchanged = λ n. kept (tell e.answer) refl n;
-    }
-  where
-    number : refusal r ≡ (row_of (step (unpack_session before) call).answer).number
-    number = ap refusal e.tells ∙ (numbered e.answer).0 ∙ ap (λ o. (row_of o).number) e.stepped.answers
-
-    kept : (o : Outcome Report) → tell e.answer ≡ o → (refusal r ≡ 0 → ⊥) → (after ≡ before) × (buffer ≡ lent call)
-    kept (accepted y) h n = absurd (n (number ∙ ap (λ o. (row_of o).number) (sym e.stepped.answers ∙ h)))
-    kept (refused x) h n = (
-      e.stepped.unchanged x h,
-      e.stepped.lent ∙ (refused-changes-nothing (unpack_session before) call (sym e.stepped.answers ∙ h)).buffer,
-    )

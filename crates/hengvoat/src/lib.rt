@@ -1,5 +1,7 @@
 // The engine for callers in other languages (include/hengvoat.h): each call of crate engine, with its answer as a struct of numbers.
 // The session is the caller's own; there is no other state.
+#![tactic(auto)]
+
 ghost use Rattle.std.specs.Prelude.{[]};
 ghost use Rattle.model.specs.Record.{Open, Apply, Undo, Close, First, After, Save};
 ghost use Rattle.model.specs.Answers.{open_answer, apply_answer, undo_answer, close_answer, save_answer};

@@ -1,4 +1,6 @@
 // The undo history, newest first: an instance put before the copies, and the newest copy taken off.
+#![tactic(auto)]
+
 ghost use Rattle.std.specs.Prelude.{◌≡◌, ◌+◌, ◌<◌, ◌≤◌, min};
 ghost use Rattle.model.specs.Limits;
 ghost use Rattle.history.specs.Histories.{PushedOn, PoppedOff};
@@ -6,7 +8,7 @@ ghost use Rattle.history.specs.Histories.{PushedOn, PoppedOff};
 use graph::history::History;
 use graph::instance::PackedInstance;
 
-#[derive(Drop)]
+#[derive(Clone, Copy)]
 pub struct Popped {
     pub instance: PackedInstance,
     pub history: History,

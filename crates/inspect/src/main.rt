@@ -1,17 +1,21 @@
 // Reads the drawing files and rule texts that its arguments name, and prints for each what open would report and whether saving gives the same
 // bytes, or what the rule holds, or the refusal. A rule text, which is one whose name begins with r, is read in the scheme of the last drawing
 // file that was accepted.
+#![tactic(auto)]
+
 ghost use Rattle.std.specs.Prelude.{◌≡◌, ◌-◌, ◌≤◌, length, take};
 ghost use Rattle.model.specs.Meaning.{most_of_drawing};
 ghost use Rattle.graph.specs.Packed.{unpack_scheme, StoredScheme, StoredInstance};
 
 use console::print_numbers;
-use files::load;
+use files::{argument, load};
 use graph::instance::PackedInstance;
 use graph::scheme::PackedScheme;
 use model::{Refusal, SaveAnswer};
 use reading::drawing::read_drawing;
 use rules::read_rule;
+use std::io;
+use std::rt::Files;
 use verdicts::Answer;
 use writing::save::save;
 
@@ -27,9 +31,9 @@ const FILE: usize = 20032;
 // What stands in a buffer before it is lent: a byte that no drawing file has.
 const BLANK: u8 = b'.';
 
-fn print_refused(r: Refusal) {
-    print_numbers(b" refused=", &[table::number(r), table::returned(r)]);
-    io::write_all(1, b"\n");
+fn print_refused(rt: &impl Print, r: Refusal) -> io::Result<()> {
+    print_numbers(rt, b" refused=", &[table::number(r), table::returned(r)])?;
+    rt.write_all(b"\n")
 }
 
 fn blank(buf: &mut [u8]) {
@@ -53,17 +57,24 @@ fn blanks(s: &[u8]) -> u64 {
 }
 
 // Saves into a buffer that is too short, and prints the refusal and how many bytes were left alone.
-fn print_short(scheme: PackedScheme, instance: PackedInstance, buf: &mut [u8])
+fn print_short(
+    rt: &impl Print,
+    scheme: PackedScheme,
+    instance: PackedInstance,
+    buf: &mut [u8],
+) -> io::Result<()>
     requires stored_scheme { StoredScheme scheme }
     requires stored_instance { StoredInstance (unpack_scheme scheme) instance }
 {
     if let SaveAnswer::Refused(refusal) = save(scheme, instance, buf) {
         print_numbers(
+            rt,
             b" short=",
             &[table::number(refusal), table::returned(refusal)],
-        );
-        print_numbers(b" kept=", &[blanks(buf)]);
+        )?;
+        print_numbers(rt, b" kept=", &[blanks(buf)])?;
     }
+    Ok(())
 }
 
 // How many bytes at the front are the same in both.
@@ -84,13 +95,20 @@ fn same(a: &[u8], b: &[u8]) -> usize
 }
 
 // Saves into a buffer of exactly the file's length, and prints how many bytes are those of the text that was read.
-fn print_same(scheme: PackedScheme, instance: PackedInstance, text: &[u8], buf: &mut [u8])
+fn print_same(
+    rt: &impl Print,
+    scheme: PackedScheme,
+    instance: PackedInstance,
+    text: &[u8],
+    buf: &mut [u8],
+) -> io::Result<()>
     requires stored_scheme { StoredScheme scheme }
     requires stored_instance { StoredInstance (unpack_scheme scheme) instance }
 {
     if let SaveAnswer::Saved { length: _ } = save(scheme, instance, buf) {
-        print_numbers(b" same=", &[same(text, buf) as u64]);
+        print_numbers(rt, b" same=", &[same(text, buf) as u64])?;
     }
+    Ok(())
 }
 
 fn one_less(n: usize) -> usize
@@ -100,7 +118,13 @@ fn one_less(n: usize) -> usize
 }
 
 // Into a buffer that is one byte too short, and one that is just long enough. None is too short for an empty file.
-fn save_closely(scheme: PackedScheme, instance: PackedInstance, text: &[u8], length: usize)
+fn save_closely(
+    rt: &impl Print,
+    scheme: PackedScheme,
+    instance: PackedInstance,
+    text: &[u8],
+    length: usize,
+) -> io::Result<()>
     requires stored_scheme { StoredScheme scheme }
     requires stored_instance { StoredInstance (unpack_scheme scheme) instance }
     requires length_le_most_of_drawing { length ≤ most_of_drawing }
@@ -108,36 +132,67 @@ fn save_closely(scheme: PackedScheme, instance: PackedInstance, text: &[u8], len
     let mut short = [0; FILE];
     blank(&mut short);
     let less = one_less(length);
-    print_short(scheme, instance, &mut short[..less]);
+    print_short(rt, scheme, instance, &mut short[..less])?;
     let mut exact = [0; FILE];
     blank(&mut exact);
-    print_same(scheme, instance, text, &mut exact[..length]);
+    print_same(rt, scheme, instance, text, &mut exact[..length])
 }
 
 // How many bytes after the file are as they were.
-fn print_rest(buf: &[u8], taken: usize)
+fn print_rest(rt: &impl Print, buf: &[u8], taken: usize) -> io::Result<()>
     requires { taken ≤ length buf.now }
 {
-    print_numbers(b" rest=", &[blanks(&buf[taken..])]);
+    print_numbers(rt, b" rest=", &[blanks(&buf[taken..])])
 }
 
-fn show_saved(scheme: PackedScheme, instance: PackedInstance, text: &[u8])
+fn show_saved(
+    rt: &impl Print,
+    scheme: PackedScheme,
+    instance: PackedInstance,
+    text: &[u8],
+) -> io::Result<()>
     requires stored_scheme { StoredScheme scheme }
     requires stored_instance { StoredInstance (unpack_scheme scheme) instance }
 {
     let mut buf = [0; FILE];
     blank(&mut buf);
     if let SaveAnswer::Saved { length } = save(scheme, instance, &mut buf) {
-        print_numbers(b" saved=", &[length]);
-        print_rest(&buf, length as usize);
-        save_closely(scheme, instance, text, length as usize);
+        print_numbers(rt, b" saved=", &[length])?;
+        print_rest(rt, &buf, length as usize)?;
+        save_closely(rt, scheme, instance, text, length as usize)?;
     }
+    Ok(())
+}
+
+// What a drawing file or a file leaves: the scheme that is open after it, and whether all was written.
+#[derive(Drop)]
+struct Shown {
+    scheme: PackedScheme,
+    written: io::Result<()>,
+}
+
+fn print_opened(
+    rt: &impl Print,
+    scheme: PackedScheme,
+    instance: PackedInstance,
+    text: &[u8],
+) -> io::Result<()>
+    requires stored_scheme { StoredScheme scheme }
+    requires stored_instance { StoredInstance (unpack_scheme scheme) instance }
+{
+    print_numbers(
+        rt,
+        b" opened=",
+        &[scheme.classes.count(), scheme.names.count()],
+    )?;
+    show_saved(rt, scheme, instance, text)?;
+    rt.write_all(b"\n")
 }
 
 // The scheme that is open after the file.
-fn show_drawing(text: &[u8], before: PackedScheme) -> PackedScheme
+fn show_drawing(rt: &impl Print, text: &[u8], before: PackedScheme) -> Shown
     requires { StoredScheme before }
-    ensures { StoredScheme result }
+    ensures { StoredScheme result.scheme }
 {
     let read = read_drawing(text);
     let scheme = read.scheme;
@@ -145,19 +200,20 @@ fn show_drawing(text: &[u8], before: PackedScheme) -> PackedScheme
     let answer = read.answer;
     match answer {
         Answer::Accepted => {
-            print_numbers(b" opened=", &[scheme.classes.count(), scheme.names.count()]);
-            show_saved(scheme, instance, text);
-            io::write_all(1, b"\n");
-            scheme
+            let written = print_opened(rt, scheme, instance, text);
+            Shown { scheme, written }
         }
         Answer::Refused(refusal) => {
-            print_refused(refusal);
-            before
+            let written = print_refused(rt, refusal);
+            Shown {
+                scheme: before,
+                written,
+            }
         }
     }
 }
 
-fn show_rule(text: &[u8], scheme: PackedScheme)
+fn show_rule(rt: &impl Print, text: &[u8], scheme: PackedScheme) -> io::Result<()>
     requires { StoredScheme scheme }
 {
     let read = read_rule(text, scheme);
@@ -167,46 +223,52 @@ fn show_rule(text: &[u8], scheme: PackedScheme)
     let answer = read.answer;
     match answer {
         Answer::Accepted => {
-            print_numbers(b" op=", &[action.code]);
-            print_numbers(b" pnodes=", &[pattern.order as u64]);
-            print_numbers(b" pedges=", &[pattern.size as u64]);
-            print_numbers(b" head=", &[action.head]);
-            print_numbers(b" parts=", &[action.count as u64]);
-            io::write_all(1, b"\n");
+            print_numbers(rt, b" op=", &[action.code])?;
+            print_numbers(rt, b" pnodes=", &[pattern.order as u64])?;
+            print_numbers(rt, b" pedges=", &[pattern.size as u64])?;
+            print_numbers(rt, b" head=", &[action.head])?;
+            print_numbers(rt, b" parts=", &[action.count as u64])?;
+            rt.write_all(b"\n")
         }
-        Answer::Refused(refusal) => print_refused(refusal),
+        Answer::Refused(refusal) => print_refused(rt, refusal),
     }
 }
 
 // The scheme that is open after the file that is named.
-fn show_file(name: &[u8], scheme: PackedScheme) -> PackedScheme
+fn show_file(rt: &(impl Files + Print + Eprint), name: &[u8], scheme: PackedScheme) -> Shown
     requires { StoredScheme scheme }
-    ensures { StoredScheme result }
+    ensures { StoredScheme result.scheme }
 {
     let mut text = [0u8; ENOUGH];
-    let loaded = load(name, &mut text);
+    let loaded = load(rt, name, &mut text);
     if !loaded.readable {
-        return scheme;
+        let written = Ok(());
+        return Shown { scheme, written };
     }
     let length = loaded.length;
-    io::write_all(1, name);
+    if let Err(error) = rt.write_all(name) {
+        let written = Err(error);
+        return Shown { scheme, written };
+    }
     if 0 < name.len() {
         if name[0] == b'r' {
-            show_rule(&text[0..length], scheme);
-            return scheme;
+            let written = show_rule(rt, &text[0..length], scheme);
+            return Shown { scheme, written };
         }
     }
-    show_drawing(&text[0..length], scheme)
+    show_drawing(rt, &text[0..length], scheme)
 }
 
-fn main() {
+fn main(rt: HostRuntime) -> io::Result<()> {
     let mut scheme = PackedScheme::new();
-    let arguments = os::arg_count();
-    let mut i = 1;
-    while i < arguments {
+    for i in 1..usize::MAX {
         let mut name = [0u8; NAME];
-        let length = os::arg(i, &mut name);
-        scheme = show_file(&name[..length], scheme);
-        i += 1;
+        let Some(length) = argument(&rt, i, &mut name) else {
+            break
+        };
+        let shown = show_file(&rt, &name[..length], scheme);
+        scheme = shown.scheme;
+        shown.written?;
     }
+    Ok(())
 }

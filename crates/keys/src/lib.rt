@@ -1,4 +1,6 @@
 // Rising keys: search by halving, insertion and removal that keep the order.
+#![tactic(auto)]
+
 ghost use Rattle.std.specs.Prelude.{◌≡◌, true, not, ◌<◌, ◌≤◌, ◌%◌, eqb, length, take};
 ghost use Rattle.lists.specs.Lists.{any, keep, member};
 ghost use Rattle.keys.specs.Keys.{keys_rise, place_of, join_key, Front};

@@ -5,4 +5,3 @@ pub mod Text
 pub mod Decimal
 pub mod Radix
 pub mod Buffers
-pub mod Laws

@@ -1,10 +1,12 @@
 // Reads the drawing file that its first argument names, and the rule texts that the others name, and prints of each rule's pattern all matchings,
 // listed by first and after; how many a walk visits and how many images it notes; and what comes after lists that are no matchings.
+#![tactic(auto)]
+
 ghost use Rattle.graph.specs.Packed.{unpack_scheme, StoredScheme, StoredInstance};
 ghost use Rattle.matcher.specs.Matchers.{Stored};
 
 use console::{print_first, print_numbers};
-use files::load;
+use files::{argument, load};
 use graph::instance::PackedInstance;
 use graph::pattern::PackedPattern;
 use graph::scheme::PackedScheme;
@@ -13,6 +15,8 @@ use model::{MatchingAnswer, Refusal};
 use notes::{TOGETHER, count, no_notes};
 use reading::drawing::read_drawing;
 use rules::read_rule;
+use std::io;
+use std::rt::{Env, Files};
 use verdicts::Answer;
 
 // The most bytes that a name has.
@@ -24,133 +28,154 @@ const LISTED: usize = 100;
 // The first so many bytes of a text decide how it is read.
 const ENOUGH: usize = 20106;
 
-fn print_refused(r: Refusal) {
-    print_numbers(b" refused=", &[table::number(r), table::returned(r)]);
+fn print_refused(rt: &impl Print, r: Refusal) -> io::Result<()> {
+    print_numbers(rt, b" refused=", &[table::number(r), table::returned(r)])
 }
 
 // Prints what is given; whether it is a matching.
-fn print_given(given: Matched) -> bool {
+fn print_given(rt: &impl Print, given: Matched) -> io::Result<bool> {
     let numbers = given.numbers;
     let answer = given.answer;
     match answer {
         MatchingAnswer::Found { length } => {
-            print_first(b" (", &numbers, length);
-            io::write_all(1, b")");
-            true
+            print_first(rt, b" (", &numbers, length)?;
+            rt.write_all(b")")?;
+            Ok(true)
         }
         MatchingAnswer::Nothing => {
-            io::write_all(1, b" none");
-            false
+            rt.write_all(b" none")?;
+            Ok(false)
         }
         MatchingAnswer::Refused(refusal) => {
-            print_refused(refusal);
-            false
+            print_refused(rt, refusal)?;
+            Ok(false)
         }
     }
 }
 
-fn print_listing(instance: PackedInstance, pattern: PackedPattern)
+fn print_listing(
+    rt: &impl Print,
+    instance: PackedInstance,
+    pattern: PackedPattern,
+) -> io::Result<()>
     requires { Stored instance pattern }
 {
     let levels = pattern.order;
     let given = first(instance, pattern);
     let mut numbers = given.numbers;
-    let mut more = print_given(given);
+    let mut more = print_given(rt, given)?;
     let mut left = LISTED;
     while 0 < left {
         left -= 1;
         if more {
             let next = after(instance, pattern, &numbers[..levels]);
             numbers = next.numbers;
-            more = print_given(next);
+            more = print_given(rt, next)?;
         }
     }
+    Ok(())
 }
 
 // A walk that notes nothing, and for each pattern node one that notes its images.
-fn print_visits(instance: PackedInstance, pattern: PackedPattern)
+fn print_visits(rt: &impl Print, instance: PackedInstance, pattern: PackedPattern) -> io::Result<()>
     requires { Stored instance pattern }
 {
     let mut none = no_notes();
     let visits = visit_all(instance, pattern, &[], &mut none);
-    print_numbers(b" visits=", &[visits]);
-    print_numbers(b" marks=", &[count(&none) as u64]);
+    print_numbers(rt, b" visits=", &[visits])?;
+    print_numbers(rt, b" marks=", &[count(&none) as u64])?;
     let mut q = 0;
     while q < pattern.order as u64 {
         let mut images = no_notes();
         visit_all(instance, pattern, &[TOGETHER, q], &mut images);
-        print_numbers(b",", &[count(&images) as u64]);
+        print_numbers(rt, b",", &[count(&images) as u64])?;
         q += 1;
     }
+    Ok(())
 }
 
-fn print_after(instance: PackedInstance, pattern: PackedPattern, number: u64)
+fn print_after(
+    rt: &impl Print,
+    instance: PackedInstance,
+    pattern: PackedPattern,
+    number: u64,
+) -> io::Result<()>
     requires { Stored instance pattern }
 {
     let levels = pattern.order;
     let list = [number; PackedPattern::NODES + 1];
-    print_numbers(b" after=", &[number]);
-    print_given(after(instance, pattern, &list[0..levels]));
+    print_numbers(rt, b" after=", &[number])?;
+    print_given(rt, after(instance, pattern, &list[0..levels]))?;
+    Ok(())
 }
 
-fn show_pattern(instance: PackedInstance, pattern: PackedPattern)
+fn show_pattern(rt: &impl Print, instance: PackedInstance, pattern: PackedPattern) -> io::Result<()>
     requires { Stored instance pattern }
 {
-    print_listing(instance, pattern);
-    print_visits(instance, pattern);
-    print_after(instance, pattern, 0);
-    print_after(instance, pattern, 4);
-    print_after(instance, pattern, 5);
-    print_after(instance, pattern, 18446744073709551615);
-    print_given(after(instance, pattern, &[0; PackedPattern::NODES + 1]));
-    io::write_all(1, b"\n");
+    print_listing(rt, instance, pattern)?;
+    print_visits(rt, instance, pattern)?;
+    print_after(rt, instance, pattern, 0)?;
+    print_after(rt, instance, pattern, 4)?;
+    print_after(rt, instance, pattern, 5)?;
+    print_after(rt, instance, pattern, 18446744073709551615)?;
+    print_given(rt, after(instance, pattern, &[0; PackedPattern::NODES + 1]))?;
+    rt.write_all(b"\n")
 }
 
-fn show_rule(scheme: PackedScheme, instance: PackedInstance, name: &[u8])
+fn show_rule(
+    rt: &(impl Files + Print + Eprint),
+    scheme: PackedScheme,
+    instance: PackedInstance,
+    name: &[u8],
+) -> io::Result<()>
     requires stored_scheme { StoredScheme scheme }
     requires stored_instance { StoredInstance (unpack_scheme scheme) instance }
 {
     let mut text = [0u8; ENOUGH];
-    let loaded = load(name, &mut text);
+    let loaded = load(rt, name, &mut text);
     if !loaded.readable {
-        return;
+        return Ok(());
     }
     let length = loaded.length;
-    io::write_all(1, name);
+    rt.write_all(name)?;
     let read = read_rule(&text[0..length], scheme);
     let rule = read.rule;
     let pattern = rule.pattern;
     let answer = read.answer;
     match answer {
-        Answer::Accepted => show_pattern(instance, pattern),
+        Answer::Accepted => show_pattern(rt, instance, pattern),
         Answer::Refused(refusal) => {
-            print_refused(refusal);
-            io::write_all(1, b"\n");
+            print_refused(rt, refusal)?;
+            rt.write_all(b"\n")
         }
     }
 }
 
-fn show_rules(scheme: PackedScheme, instance: PackedInstance)
+fn show_rules(
+    rt: &(impl Env + Files + Print + Eprint),
+    scheme: PackedScheme,
+    instance: PackedInstance,
+) -> io::Result<()>
     requires stored_scheme { StoredScheme scheme }
     requires stored_instance { StoredInstance (unpack_scheme scheme) instance }
 {
-    let arguments = os::arg_count();
-    let mut i = 2;
-    while i < arguments {
+    for i in 2..usize::MAX {
         let mut name = [0u8; NAME];
-        let length = os::arg(i, &mut name);
-        show_rule(scheme, instance, &name[..length]);
-        i += 1;
+        let Some(length) = argument(rt, i, &mut name) else {
+            break
+        };
+        show_rule(rt, scheme, instance, &name[..length])?;
     }
+    Ok(())
 }
 
-fn main() {
+fn main(rt: HostRuntime) -> io::Result<()> {
     let mut name = [0u8; NAME];
-    let length = os::arg(1, &mut name);
+    let length = argument(&rt, 1, &mut name).unwrap_or(0);
     let mut text = [0u8; ENOUGH];
-    let loaded = load(&name[..length], &mut text);
+    let loaded = load(&rt, &name[..length], &mut text);
     if !loaded.readable {
-        return;
+        return Ok(());
     }
     let size = loaded.length;
     let read = read_drawing(&text[0..size]);
@@ -158,10 +183,10 @@ fn main() {
     let instance = read.instance;
     let answer = read.answer;
     match answer {
-        Answer::Accepted => show_rules(scheme, instance),
+        Answer::Accepted => show_rules(&rt, scheme, instance),
         Answer::Refused(refusal) => {
-            print_refused(refusal);
-            io::write_all(1, b"\n");
+            print_refused(&rt, refusal)?;
+            rt.write_all(b"\n")
         }
     }
 }

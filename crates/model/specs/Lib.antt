@@ -8,14 +8,10 @@ pub mod Files
 pub mod Refusals
 pub mod Trial
 pub mod Answers
--- Worked examples
-pub mod Examples
-pub mod Cases
-pub mod Readings
--- What theorems are stated with, the theorems, and the three demands
+-- What theorems are stated with, and the three demands. The theorems, and worked examples, stand in proofs
 pub mod Sound
 pub mod Causes
 pub mod Meaning
 pub mod Backtracking
-pub mod Laws
+pub mod InForm
 pub mod Demands

@@ -1,8 +1,9 @@
 // What a call answers: an enum for each call, and each holds the refusal enum. Its number and what is returned with it are `table_row`
 // (specs/Refusals.antt), and in code `table`.
+#![tactic(auto)]
 
 // The fourteen rows of "When the engine declines", in their order, each with what the call returns.
-#[derive(Drop)]
+#[derive(Clone, Copy)]
 pub enum Refusal {
     Malformed { line: u64 },
     TooMany { line: u64 },
@@ -21,7 +22,7 @@ pub enum Refusal {
 }
 
 // Open reports how many classes and how many names were declared.
-#[derive(Drop)]
+#[derive(Clone, Copy)]
 pub enum OpenAnswer {
     Opened { classes: u64, names: u64 },
     Refused(Refusal),
@@ -29,7 +30,7 @@ pub enum OpenAnswer {
 
 // How many nodes and edges one of two instances has and the other has not.
 #[repr(C)]
-#[derive(Drop)]
+#[derive(Clone, Copy)]
 pub struct Difference {
     pub nodes: u64,
     pub edges: u64,
@@ -37,33 +38,33 @@ pub struct Difference {
 
 // Apply reports the matchings of the old instance, what only the new one has, and what only the old one has.
 #[repr(C)]
-#[derive(Drop)]
+#[derive(Clone, Copy)]
 pub struct Counts {
     pub matchings: u64,
     pub added: Difference,
     pub removed: Difference,
 }
 
-#[derive(Drop)]
+#[derive(Clone, Copy)]
 pub enum ApplyAnswer {
     Applied(Counts),
     Refused(Refusal),
 }
 
-#[derive(Drop)]
+#[derive(Clone, Copy)]
 pub enum UndoAnswer {
     Undone,
     Refused(Refusal),
 }
 
-#[derive(Drop)]
+#[derive(Clone, Copy)]
 pub enum CloseAnswer {
     Closed,
     Refused(Refusal),
 }
 
 // First and after give a matching or none. The matching's numbers are in an array beside the answer.
-#[derive(Drop)]
+#[derive(Clone, Copy)]
 pub enum MatchingAnswer {
     Found { length: u64 },
     Nothing,
@@ -71,7 +72,7 @@ pub enum MatchingAnswer {
 }
 
 // Save reports the file's length in bytes.
-#[derive(Drop)]
+#[derive(Clone, Copy)]
 pub enum SaveAnswer {
     Saved { length: u64 },
     Refused(Refusal),

@@ -1,4 +1,6 @@
 // Node addition: a new node for each key that is noted and not served.
+#![tactic(auto)]
+
 ghost use Rattle.std.specs.Prelude.{◌≡◌, ◌^◌, ◌<◌, ◌≤◌, length, take};
 ghost use Rattle.lists.specs.Lists.{Below};
 ghost use Rattle.model.specs.Limits;

@@ -1,5 +1,7 @@
 // Keys that are noted while matchings are visited: each once, in the order in which they come, and beside them the same keys rising, so that one is
 // found by halving. specs/Notes.antt says what a buffer of notes holds.
+#![tactic(auto)]
+
 ghost use Rattle.std.specs.Prelude.{◌≡◌, []};
 ghost use Rattle.notes.specs.Notes.{count, noted, note, note_all, Kept, Notes};
 

@@ -1,4 +1,6 @@
 // The five operations, of what a rule notes at each matching. specs/Applies.antt says what `apply` promises.
+#![tactic(auto)]
+
 ghost use Rattle.std.specs.Prelude.{◌≡◌, ◌^◌, ◌≤◌, length, drop};
 ghost use Rattle.lists.specs.Lists.{Below};
 ghost use Rattle.model.specs.Limits;

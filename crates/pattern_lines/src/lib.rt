@@ -1,4 +1,6 @@
 // A line of a pattern under the pattern above it: what it declares and conforms to, causes 3 and 4.
+#![tactic(auto)]
+
 ghost use Rattle.std.specs.Prelude.{◌≡◌, true, [], ◌<◌, length, get_or};
 ghost use Rattle.graph.specs.Packed.{unpack_triple, triples_rise, scheme_of, pattern_of, unpack_pattern_node};
 ghost use Rattle.verdicts.specs.Verdicts.{judged};

@@ -1,4 +1,6 @@
 // From rows to bytes: the lines of drawing files and rule texts as they are written.
+#![tactic(auto)]
+
 ghost use Rattle.std.specs.Prelude.{◌≡◌, ◌<◌, ◌≤◌, length};
 ghost use Rattle.lists.specs.Radix.{unrank};
 ghost use Rattle.lists.specs.Buffers.{Writes};

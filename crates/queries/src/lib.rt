@@ -1,4 +1,6 @@
 // The calls that only read the session, by value: first, after, save. Each is held to `Stepped`.
+#![tactic(auto)]
+
 ghost use Rattle.std.specs.Prelude.{◌≡◌, []};
 ghost use Rattle.model.specs.Refusals.{refused};
 ghost use Rattle.model.specs.Record.{First, After, Save};

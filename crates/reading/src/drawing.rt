@@ -12,7 +12,7 @@ use text::lines::{Last, Line};
 use verdicts::lines::{Next, next_drawing_line};
 use verdicts::{Answer, Verdict};
 
-#[derive(Drop)]
+#[derive(Clone, Copy)]
 pub struct DrawingRead {
     pub answer: Answer,
     pub scheme: PackedScheme,

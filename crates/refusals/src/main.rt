@@ -1,44 +1,43 @@
 // Prints the table of refusals as `trial` prints a refusal, each with a returned number of its own, and then the limits that the stored
 // values carry: what the shared types say when they are compiled and run.
+#![tactic(auto)]
+
 use graph::history::History;
 use graph::instance::PackedInstance;
 use graph::pattern::PackedPattern;
 use graph::scheme::PackedScheme;
 use model::Refusal;
+use std::io;
 
-fn refused(r: Refusal) {
-    io::write_all(1, b"refused=");
-    io::print_decimal(1, table::number(r));
-    io::write_all(1, b",");
-    io::print_decimal(1, table::returned(r));
-    io::write_all(1, b"\n");
+fn refused(rt: &impl Print, r: Refusal) -> io::Result<()> {
+    let number = table::number(r);
+    let returned = table::returned(r);
+    println!(rt; "refused={number},{returned}")
 }
 
-fn limit(key: &[u8], most: usize) {
-    io::write_all(1, key);
-    io::print_decimal(1, most as u64);
-    io::write_all(1, b"\n");
+fn limit(rt: &impl Print, key: &str, most: usize) -> io::Result<()> {
+    println!(rt; "{key}={most}")
 }
 
-fn main() {
-    refused(Refusal::Malformed { line: 11 });
-    refused(Refusal::TooMany { line: 12 });
-    refused(Refusal::Undeclared { line: 13 });
-    refused(Refusal::Nonconforming { line: 14 });
-    refused(Refusal::BadAction { line: 15 });
-    refused(Refusal::NotOpen);
-    refused(Refusal::AlreadyOpen);
-    refused(Refusal::NoCopy);
-    refused(Refusal::NodesFull);
-    refused(Refusal::NumbersFull);
-    refused(Refusal::EdgesFull);
-    refused(Refusal::FunctionalClash { node: 65535 });
-    refused(Refusal::BufferShort { needed: 115 });
-    refused(Refusal::LengthDiffers { length: 6 });
-    limit(b"permitted=", PackedScheme::PERMITTED);
-    limit(b"nodes=", PackedInstance::NODES);
-    limit(b"edges=", PackedInstance::EDGES);
-    limit(b"pattern nodes=", PackedPattern::NODES);
-    limit(b"pattern edges=", PackedPattern::EDGES);
-    limit(b"copies=", History::COPIES);
+fn main(rt: HostRuntime) -> io::Result<()> {
+    refused(&rt, Refusal::Malformed { line: 11 })?;
+    refused(&rt, Refusal::TooMany { line: 12 })?;
+    refused(&rt, Refusal::Undeclared { line: 13 })?;
+    refused(&rt, Refusal::Nonconforming { line: 14 })?;
+    refused(&rt, Refusal::BadAction { line: 15 })?;
+    refused(&rt, Refusal::NotOpen)?;
+    refused(&rt, Refusal::AlreadyOpen)?;
+    refused(&rt, Refusal::NoCopy)?;
+    refused(&rt, Refusal::NodesFull)?;
+    refused(&rt, Refusal::NumbersFull)?;
+    refused(&rt, Refusal::EdgesFull)?;
+    refused(&rt, Refusal::FunctionalClash { node: 65535 })?;
+    refused(&rt, Refusal::BufferShort { needed: 115 })?;
+    refused(&rt, Refusal::LengthDiffers { length: 6 })?;
+    limit(&rt, "permitted", PackedScheme::PERMITTED)?;
+    limit(&rt, "nodes", PackedInstance::NODES)?;
+    limit(&rt, "edges", PackedInstance::EDGES)?;
+    limit(&rt, "pattern nodes", PackedPattern::NODES)?;
+    limit(&rt, "pattern edges", PackedPattern::EDGES)?;
+    limit(&rt, "copies", History::COPIES)
 }

@@ -1,5 +1,7 @@
 // Reads a script of calls from standard input, and makes them one after another in one session, printing each answer as it comes. A script that is
 // too long or malformed is told on standard error, and none of its calls is made.
+#![tactic(auto)]
+
 ghost use Rattle.std.specs.Prelude.{◌+◌, ◌<◌, ◌≤◌};
 ghost use Rattle.session.specs.Sessions.{StoredSession};
 ghost use Rattle.runs.specs.Handed.{answer_room};
@@ -12,22 +14,24 @@ use queries::{after_value, first_value, save_value};
 use runs::{APPLY, NUMBERS, OPEN, perform};
 use script::{AFTER, BUFFER, Entry, FIRST, MALFORMED, ROOM, SAVE, call_at};
 use session::Session;
+use std::io;
 
 mod script;
 
 // The most bytes that a script has.
 const SCRIPT: usize = 1048576;
 
-fn end_line() {
-    io::write_all(libc::STDOUT_FILENO, b"\n");
+fn end_line(rt: &impl Print) -> io::Result<()> {
+    rt.write_all(b"\n")
 }
 
-fn print_refused(refusal: Refusal) {
+fn print_refused(rt: &impl Print, refusal: Refusal) -> io::Result<()> {
     print_numbers(
+        rt,
         b"refused=",
         &[table::number(refusal), table::returned(refusal)],
-    );
-    end_line();
+    )?;
+    end_line(rt)
 }
 
 // How many numbers a report has.
@@ -44,87 +48,101 @@ fn reported(kind: u8) -> usize
 }
 
 // An answer of open, apply, undo or close: 0 and the report, or a refusal's number and what is returned.
-fn print_performed(kind: u8, numbers: [u64; NUMBERS]) {
+fn print_performed(rt: &impl Print, kind: u8, numbers: [u64; NUMBERS]) -> io::Result<()> {
     if numbers[0] == 0 {
         let end = 1 + reported(kind);
-        print_numbers(b"done=", &numbers[1..end]);
+        print_numbers(rt, b"done=", &numbers[1..end])?;
     } else {
-        print_numbers(b"refused=", &numbers[0..2]);
+        print_numbers(rt, b"refused=", &numbers[0..2])?;
     }
-    end_line();
+    end_line(rt)
 }
 
-fn print_matched(matched: Matched) {
+fn print_matched(rt: &impl Print, matched: Matched) -> io::Result<()> {
     let numbers = matched.numbers;
     let answer = matched.answer;
     match answer {
         MatchingAnswer::Found { length } => {
-            print_first(b"matching=", &numbers, length);
-            end_line();
+            print_first(rt, b"matching=", &numbers, length)?;
+            end_line(rt)
         }
-        MatchingAnswer::Nothing => {
-            io::write_all(libc::STDOUT_FILENO, b"none\n");
-        }
-        MatchingAnswer::Refused(refusal) => print_refused(refusal),
+        MatchingAnswer::Nothing => rt.write_all(b"none\n"),
+        MatchingAnswer::Refused(refusal) => print_refused(rt, refusal),
     }
 }
 
-fn print_file(buf: &[u8], length: u64) {
-    print_numbers(b"done=", &[length]);
-    end_line();
+fn print_file(rt: &impl Print, buf: &[u8], length: u64) -> io::Result<()> {
+    print_numbers(rt, b"done=", &[length])?;
+    end_line(rt)?;
     if length < buf.len() as u64 {
         let end = length as usize;
-        io::write_all(libc::STDOUT_FILENO, &buf[0..end]);
+        rt.write_all(&buf[0..end])
     } else {
-        io::write_all(libc::STDOUT_FILENO, buf);
+        rt.write_all(buf)
     }
 }
 
-fn print_saved(session: Session, buf: &mut [u8])
+fn print_saved(rt: &impl Print, session: Session, buf: &mut [u8]) -> io::Result<()>
     requires { StoredSession session }
 {
     let answer = save_value(session, buf);
     match answer {
-        SaveAnswer::Saved { length } => print_file(buf, length),
-        SaveAnswer::Refused(refusal) => print_refused(refusal),
+        SaveAnswer::Saved { length } => print_file(rt, buf, length),
+        SaveAnswer::Refused(refusal) => print_refused(rt, refusal),
     }
 }
 
 // The list is what stands after the first number.
-fn print_after(session: Session, text: &[u8], numbers: [u64; ROOM], listed: usize)
+fn print_after(
+    rt: &impl Print,
+    session: Session,
+    text: &[u8],
+    numbers: [u64; ROOM],
+    listed: usize,
+) -> io::Result<()>
     requires stored_session { StoredSession session }
     requires listed_bound { 1 + listed ≤ line_room }
 {
     let end = 1 + listed;
-    print_matched(after_value(session, text, &numbers[1..end]));
+    print_matched(rt, after_value(session, text, &numbers[1..end]))
+}
+
+// What a call leaves: the session, and whether its answer was written.
+#[derive(Drop)]
+struct Made {
+    session: Session,
+    written: io::Result<()>,
 }
 
 // Makes a call, prints its answer, and gives the session that it leaves.
-fn make(session: Session, call: Entry, text: &[u8]) -> Session
+fn make(rt: &impl Print, session: Session, call: Entry, text: &[u8]) -> Made
     requires stored_session { StoredSession session }
     requires fits { Fits call }
-    ensures { StoredSession result }
+    ensures { StoredSession result.session }
 {
     if call.kind == FIRST {
-        print_matched(first_value(session, text));
-        return session;
+        let written = print_matched(rt, first_value(session, text));
+        return Made { session, written };
     }
     if call.kind == AFTER {
         let numbers = call.numbers;
-        print_after(session, text, numbers, call.listed);
-        return session;
+        let written = print_after(rt, session, text, numbers, call.listed);
+        return Made { session, written };
     }
     if call.kind == SAVE {
         let mut buf = [0u8; BUFFER];
         let length = call.buffer;
-        print_saved(session, &mut buf[0..length]);
-        return session;
+        let written = print_saved(rt, session, &mut buf[0..length]);
+        return Made { session, written };
     }
     let performed = perform(session, call.kind, text);
     let numbers = performed.numbers;
-    print_performed(call.kind, numbers);
+    let written = print_performed(rt, call.kind, numbers);
     let after = performed.session;
-    after
+    Made {
+        session: after,
+        written,
+    }
 }
 
 // Where the first malformed call begins, or the script's length.
@@ -140,19 +158,22 @@ fn first_bad(script: &[u8]) -> usize {
     at
 }
 
-fn replay(script: &[u8]) {
+fn replay(rt: &impl Print, script: &[u8]) -> io::Result<()> {
     let mut session = Session::new();
     let mut at = 0;
     while at < script.len() {
         let call = call_at(script, at);
         if call.kind == MALFORMED {
-            return;
+            return Ok(());
         }
         let text = call.text;
         let next = call.next;
-        session = make(session, call, &script[text..next]);
+        let made = make(rt, session, call, &script[text..next]);
+        session = made.session;
+        made.written?;
         at = next;
     }
+    Ok(())
 }
 
 // One byte more, so that a script that is too long shows.
@@ -160,29 +181,22 @@ fn empty_script() -> [u8; SCRIPT + 1] {
     [0u8; SCRIPT + 1]
 }
 
-fn main() {
+fn main(rt: HostRuntime) -> io::Result<()> {
     let mut script = empty_script();
-    let loaded = files::load_opened(libc::STDIN_FILENO, b"standard input", &mut script);
+    let mut input = rt.stdin();
+    let loaded = files::load_opened(&rt, &mut input, b"standard input", &mut script);
     if !loaded.readable {
-        return;
+        return Ok(());
     }
     let length = loaded.length;
     if SCRIPT < length {
-        io::write_all(
-            libc::STDERR_FILENO,
-            b"replay: the script is longer than 1048576 bytes; nothing was run\n",
-        );
-        return;
+        return eprintln!(rt; "replay: the script is longer than 1048576 bytes; nothing was run");
     }
     let bad = first_bad(&script[0..length]);
     if bad < length {
-        io::write_all(libc::STDERR_FILENO, b"replay: no call begins at byte ");
-        io::print_decimal(libc::STDERR_FILENO, bad as u64);
-        io::write_all(
-            libc::STDERR_FILENO,
-            b" of the script, counted from 0; nothing was run\n",
+        return eprintln!(rt;
+            "replay: no call begins at byte {bad} of the script, counted from 0; nothing was run"
         );
-        return;
     }
-    replay(&script[0..length]);
+    replay(&rt, &script[0..length])
 }

@@ -25,7 +25,7 @@ pub const ROOM: usize = PackedPattern::NODES + 2;
 const LARGE: u64 = 1 << 32;
 
 // A call: where its text and the next call begin, the length of its buffer, and the numbers of its line: those after the first are its list.
-#[derive(Drop)]
+#[derive(Clone, Copy)]
 pub struct Entry {
     pub kind: u8,
     pub text: usize,
@@ -36,7 +36,7 @@ pub struct Entry {
 }
 
 // The numbers of a line, as many as there is room for.
-#[derive(Drop)]
+#[derive(Clone, Copy)]
 struct Numbers {
     good: bool,
     numbers: [u64; ROOM],

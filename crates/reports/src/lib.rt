@@ -1,4 +1,6 @@
 // The answer to an applied rule: five counts, told from the numbers of nodes and edges before and after, or the refusal.
+#![tactic(auto)]
+
 ghost use Rattle.std.specs.Prelude.{◌≡◌, ◌-◌};
 ghost use Rattle.reports.specs.Reported.{counts_of, Reports};
 
@@ -7,7 +9,7 @@ use growth::{Changed, Verdict};
 use model::{ApplyAnswer, Counts, Difference};
 
 // The answer, and the instance after it.
-#[derive(Drop)]
+#[derive(Clone, Copy)]
 pub struct Applied {
     pub answer: ApplyAnswer,
     pub instance: PackedInstance,

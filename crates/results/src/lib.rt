@@ -1,5 +1,7 @@
 // Answers as structs of numbers, for callers in other languages: 0 and 0, then what is reported; or the refusal's number, what is returned
 // with it, and zeros. specs/Results.antt says so for each case.
+#![tactic(auto)]
+
 ghost use Rattle.std.specs.Prelude.{◌≡◌};
 ghost use Rattle.results.specs.Results.{open_result, apply_result, undo_result, close_result, matching_result, save_result, refused_step};
 
@@ -11,14 +13,14 @@ use model::{
 
 // Of undo and close, which report nothing.
 #[repr(C)]
-#[derive(Drop)]
+#[derive(Clone, Copy)]
 pub struct StepResult {
     pub refusal: u64,
     pub returned: u64,
 }
 
 #[repr(C)]
-#[derive(Drop)]
+#[derive(Clone, Copy)]
 pub struct OpenResult {
     pub refusal: u64,
     pub returned: u64,
@@ -27,7 +29,7 @@ pub struct OpenResult {
 }
 
 #[repr(C)]
-#[derive(Drop)]
+#[derive(Clone, Copy)]
 pub struct ApplyResult {
     pub refusal: u64,
     pub returned: u64,
@@ -40,7 +42,7 @@ pub struct ApplyResult {
 
 // Of first and after: `found` is 1 where there is a matching, `length` how many numbers it has.
 #[repr(C)]
-#[derive(Drop)]
+#[derive(Clone, Copy)]
 pub struct MatchingResult {
     pub refusal: u64,
     pub returned: u64,
@@ -51,7 +53,7 @@ pub struct MatchingResult {
 
 // `length` is that of the file, in bytes.
 #[repr(C)]
-#[derive(Drop)]
+#[derive(Clone, Copy)]
 pub struct SaveResult {
     pub refusal: u64,
     pub returned: u64,

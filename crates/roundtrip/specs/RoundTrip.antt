@@ -7,9 +7,9 @@ use Rattle.model.specs.Graph.{Scheme, Instance}
 use Rattle.model.specs.Refusals.{accepted}
 use Rattle.model.specs.Files.DrawingFile.{Contents, read_drawing, file_text}
 use Rattle.model.specs.Sound.{Sound}
-use Rattle.model.specs.Laws.Outcomes.{refused-not-accepted}
-use Rattle.model.specs.Laws.DrawingFiles.{write_read}
-use Rattle.model.specs.Laws.SavedFiles.{read-write}
+use Rattle.model.proofs.Laws.Outcomes.{refused-not-accepted}
+use Rattle.model.proofs.Laws.DrawingFiles.{write_read}
+use Rattle.model.proofs.Laws.SavedFiles.{read-write}
 use Rattle.graph.specs.Packed.{unpack_scheme, unpack_instance}
 use Rattle.model.specs.declared.SaveAnswer.{SaveAnswer}
 use Rattle.model.specs.declared.SaveAnswer.TheVariants.{Saved}
@@ -19,7 +19,7 @@ use Rattle.verdicts.specs.declared.Answer.TheVariants.{Accepted, Refused}
 use Rattle.reading.specs.Readers.{contents, ReadDrawing}
 use Rattle.reading.specs.declared.drawing.DrawingRead.{DrawingRead}
 use Rattle.writing.specs.Writers.{Saves, SavesText}
-use Rattle.writing.specs.Laws.Saving.{saved-text, saved-file}
+use Rattle.writing.proofs.Laws.Saving.{saved-text, saved-file}
 
 -- what was read from a file, saved: the same bytes at the front of the buffer, and the rest as it was; or, where the buffer is too short for the
 -- file, its length and the buffer as it was

@@ -1,1 +1,2 @@
 // Reading and writing drawing files, joined: theorems alone, in specs/.
+#![tactic(auto)]

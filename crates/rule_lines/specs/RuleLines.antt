@@ -5,8 +5,8 @@ use Rattle.model.specs.Limits
 use Rattle.model.specs.Graph.{Scheme, Pattern, row}
 use Rattle.model.specs.Files.{Checks, checks, full}
 use Rattle.model.specs.Files.RuleText.{RuleKey, op=, pnode=, pedge=, make=, arm=, put=, drop=, cut=, group=, rule_form, rule_format}
-use Rattle.model.specs.Laws.Lines.{LineInForm}
-use Rattle.model.specs.Laws.RuleActions.{code_of}
+use Rattle.model.specs.InForm.{LineInForm}
+use Rattle.model.specs.InForm.{code_of}
 use Rattle.forms.specs.Forms.{first_rule_kind, rule_key}
 use Rattle.text.specs.Lines.{rule_line, Tabled, follows_last}
 use Rattle.text.specs.declared.lines.Line.{Line}

@@ -1,6 +1,8 @@
 // A line of a rule text under what the lines above it hold, in an open scheme: in its place, not one too many, and then as its own checks say.
+#![tactic(auto)]
+
 ghost use Rattle.std.specs.Prelude.{◌≡◌, true, ◌&&◌, ◌<◌, ◌≤◌};
-ghost use Rattle.model.specs.Laws.RuleActions.{code_of};
+ghost use Rattle.model.specs.InForm.{code_of};
 ghost use Rattle.forms.specs.Forms.{first_rule_kind, kind_count, rule_key};
 ghost use Rattle.text.specs.Lines.{Tabled, follows_last};
 ghost use Rattle.graph.specs.Packed.{triples_rise, scheme_of, unpack_pattern, pattern_of};

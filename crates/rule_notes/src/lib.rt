@@ -1,4 +1,6 @@
 // What a rule notes: before a walk, and at each matching. specs/Noted.antt says what.
+#![tactic(auto)]
+
 ghost use Rattle.std.specs.Prelude.{[], ◌∷◌, ◌≤◌, length};
 ghost use Rattle.model.specs.Limits;
 ghost use Rattle.notes.specs.Notes.{Notes};
@@ -11,7 +13,7 @@ use notes::{EACH, TOGETHER, note_all};
 use serving::note_served;
 
 // What a walk is told to note: how, and then the parts. No numbers: nothing.
-#[derive(Drop)]
+#[derive(Clone, Copy)]
 pub struct Numbers {
     pub numbers: [u64; 1 + PackedAction::PARTS],
     pub length: usize,

@@ -1,4 +1,6 @@
 // Rule texts, in an open scheme: from any bytes to a rule, or the refusal of the first bad line.
+#![tactic(auto)]
+
 ghost use Rattle.std.specs.Prelude.{◌≡◌, ◌<◌, ◌≤◌};
 ghost use Rattle.forms.specs.Forms.{first_rule_kind, kind_count, rule_key};
 ghost use Rattle.graph.specs.Packed.{unpack_scheme, StoredScheme};
@@ -15,7 +17,7 @@ use text::lines::{Last, Line};
 use verdicts::lines::{Next, next_rule_line};
 use verdicts::{Answer, Verdict};
 
-#[derive(Drop)]
+#[derive(Clone, Copy)]
 pub struct RuleRead {
     pub answer: Answer,
     pub rule: PackedRule,

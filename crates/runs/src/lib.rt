@@ -1,4 +1,6 @@
 // A whole list of calls, handed over as slices: kinds, texts one after another, and the bound of each text. specs/Runs.antt says what is promised.
+#![tactic(auto)]
+
 ghost use Rattle.std.specs.Prelude.{◌≡◌, ◌+◌, ◌≤◌, length};
 ghost use Rattle.lists.specs.Buffers.{WritesFrom};
 ghost use Rattle.model.specs.Refusals.{refused};
@@ -25,14 +27,14 @@ pub const CLOSE: u8 = 3;
 pub const NUMBERS: usize = 6;
 
 // An answer as numbers, and the session.
-#[derive(Drop)]
+#[derive(Clone, Copy)]
 pub struct Performed {
     pub numbers: [u64; NUMBERS],
     pub session: Session,
 }
 
 // The session after a list of calls, and how many were run.
-#[derive(Drop)]
+#[derive(Clone, Copy)]
 pub struct Ran {
     pub session: Session,
     pub calls: usize,

@@ -1,5 +1,7 @@
 // What the nodes of a class serve in node addition: the images to which a node has its arms are one key, the targets in base 2 ^ 16. Names of arms are
 // functional, so a node has at most one such key, and serves the matchings that make it.
+#![tactic(auto)]
+
 ghost use Rattle.std.specs.Prelude.{◌≡◌, true, ◌^◌, ◌<◌, ◌≤◌, length};
 ghost use Rattle.lists.specs.Lists.{Below};
 ghost use Rattle.model.specs.Limits;

@@ -1,4 +1,3 @@
--- What a session stands for, what every call is held to, and laws.
+-- What a session stands for, and what every call is held to.
 pub mod Sessions
 pub mod Chains
-pub mod Laws

@@ -1,4 +1,6 @@
 // The engine's state. specs/Sessions.antt says what it stands for, and what every call is held to.
+#![tactic(auto)]
+
 ghost use Rattle.session.specs.Sessions.{NewSession};
 
 use graph::history::History;
@@ -7,7 +9,7 @@ use graph::scheme::PackedScheme;
 
 // Shut, or open with scheme, instance and copies.
 #[repr(C)]
-#[derive(Drop)]
+#[derive(Clone, Copy)]
 pub struct Session {
     pub opened: bool,
     pub scheme: PackedScheme,

@@ -1,4 +1,6 @@
 // What the lines of a drawing file hold, and what stands with a further line: keys stand in arrays that are lent, as many as are counted.
+#![tactic(auto)]
+
 ghost use Rattle.standing.specs.Held.{FreshStanding, Fits, Room, KeptLine};
 
 use forms::Form;
@@ -7,7 +9,7 @@ use graph::packing::KINDS;
 use text::lines::Line;
 
 // What the lines above hold, but for the keys, which stand in arrays: declared classes and names, and how many keys there are of each sort.
-#[derive(Drop)]
+#[derive(Clone, Copy)]
 pub struct Standing {
     pub classes: Declarations,
     pub names: Declarations,

@@ -1,5 +1,7 @@
 // The table of "When the engine declines", row by row: the number of a refusal, and what the call returns with it.
 // One match each, apart from the definitions: a match of fourteen arms takes longer to prove than any law on them.
+#![tactic(auto)]
+
 ghost use Rattle.std.specs.Prelude.{◌≡◌};
 ghost use Rattle.model.specs.Refusals.{table_row};
 

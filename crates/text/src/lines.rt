@@ -9,13 +9,13 @@ use numerals::scan::{Numeral, find, numeral_below};
 
 // A line's kind, and its numbers as one.
 #[repr(C)]
-#[derive(Drop)]
+#[derive(Clone, Copy)]
 pub struct Line {
     pub kind: usize,
     pub row: u64,
 }
 
-#[derive(Drop)]
+#[derive(Clone, Copy)]
 pub enum Parsed {
     Read(Line),
     Malformed,
@@ -23,7 +23,7 @@ pub enum Parsed {
 
 // How many lines stand above, and the last of them, where there is one.
 #[repr(C)]
-#[derive(Drop)]
+#[derive(Clone, Copy)]
 pub struct Last {
     pub lines: u64,
     pub line: Line,

@@ -1,3 +1,2 @@
--- The text that program trial prints, what is promised of it, and laws.
+-- The text that program trial prints, and what is promised of it.
 pub mod Trials
-pub mod Laws

@@ -1,15 +1,12 @@
 -- The text that program trial prints: how long it can be, its parts as the code writes them, and the bytes of a file that decide it.
-use Rattle.std.specs.Prelude.{ℕ, ◌+◌, ◌*◌, ◌≤◌, ◌≡◌, refl, List, ◌++◌, take}
-use Rattle.std.proofs.Common.{ap}
+use Rattle.std.specs.Prelude.{ℕ, ◌+◌, ◌*◌, ◌≤◌, ◌≡◌, List, ◌++◌, take}
 use Rattle.lists.specs.Decimal.{most_digits}
 use Rattle.lists.specs.Text.{bytes}
 use Rattle.model.specs.Refusals.{Outcome, accepted, refused, ◌>>=◌}
-use Rattle.model.specs.Record.{Record, shut, opened, Open, Apply, Report, counted, Left, report_numbers, accept}
+use Rattle.model.specs.Record.{Record, Apply, Report, counted, Left, report_numbers, accept}
 use Rattle.model.specs.Files.{key_line}
 use Rattle.model.specs.Meaning.{most_of_drawing, enough_of_drawing, enough_of_rule}
 use Rattle.model.specs.Trial.{saved_file, outcome_text, trial}
-use Rattle.model.specs.Laws.DrawingFiles.{drawing-first-part}
-use Rattle.model.specs.Laws.RuleTexts.{rule-first-part}
 use Rattle.model.specs.declared.Counts.{Counts}
 use Rattle.model.specs.declared.Refusal.{Refusal}
 
@@ -33,25 +30,14 @@ unfoldable pub applied_text : Counts → Record → List ℕ
 applied_text n r = counts_text n ++ saved_file r
 
 -- a rule text that is applied to a record
-abbrev accepted-text : Left Report → Outcome (List ℕ)
+abbrev pub accepted-text : Left Report → Outcome (List ℕ)
 accepted-text a = accepted (key_line (bytes "done") (report_numbers a.answer) ++ saved_file a.state)
 
 unfoldable pub apply_text : Record → (rule : List ℕ) → List ℕ
 apply_text r rule = outcome_text (accept r (Apply rule) >>= accepted-text)
 
 -- # Long texts
--- files may be read into buffers of fixed length: what is printed of their first parts is what is printed of the whole
-pub long-texts : (job rule : List ℕ) (n m : ℕ) → enough_of_drawing ≤ n → enough_of_rule ≤ m → trial (take n job) (take m rule) ≡ trial job rule
-unfolding trial accept
-long-texts job rule n m h k = rw (← drawing-first-part n h job) (go (accept shut (Open job)))
-  where
-    applies : (r : Record) → accept r (Apply (take m rule)) ≡ accept r (Apply rule)
-    applies shut = refl
-    applies (opened s d cs) = rw (← rule-first-part s m k rule)
-
-    printed : List ℕ → Left Report → Outcome (List ℕ)
-    printed text o = accept o.state (Apply text) >>= accepted-text
-
-    go : (o : Outcome (Left Report)) → outcome_text (o >>= printed (take m rule)) ≡ outcome_text (o >>= printed rule)
-    go (accepted o) = ap (λ a. outcome_text (a >>= accepted-text)) (applies o.state)
-    go (refused x) = refl
+-- files may be read into buffers of fixed length: what is printed of their first parts is what is printed of the whole. Theorem `long-texts`
+-- (proofs/LongTexts.antt) is of this type.
+abbrev pub LongTexts : Type 0
+LongTexts = (job rule : List ℕ) (n m : ℕ) → enough_of_drawing ≤ n → enough_of_rule ≤ m → trial (take n job) (take m rule) ≡ trial job rule

@@ -1,4 +1,6 @@
 // What program trial prints of a drawing file and a rule text, as text in a buffer. specs/Trials.antt says what is promised.
+#![tactic(auto)]
+
 ghost use Rattle.std.specs.Prelude.{◌≡◌, ◌≤◌, length};
 ghost use Rattle.lists.specs.Buffers.{Writes};
 ghost use Rattle.model.specs.Meaning.{most_of_drawing, enough_of_drawing, enough_of_rule};
@@ -12,7 +14,7 @@ use printing::write_line;
 use queries::save_value;
 use session::Session;
 
-// The first so many bytes of a drawing file, and of a rule text, decide what is printed (specs/Trials.antt, `long-texts`); no more are printed than
+// The first so many bytes of a drawing file, and of a rule text, decide what is printed (specs/Trials.antt, `LongTexts`); no more are printed than
 // `PRINTED`.
 const JOB: usize = 20106;
 

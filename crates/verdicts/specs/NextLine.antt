@@ -6,7 +6,7 @@ use Rattle.model.specs.Graph.{Scheme}
 use Rattle.model.specs.Files.{Line, Format, lines_of}
 use Rattle.model.specs.Files.DrawingFile.{drawing_format}
 use Rattle.model.specs.Files.RuleText.{rule_format}
-use Rattle.model.specs.Laws.Lines.{LineInForm}
+use Rattle.model.specs.InForm.{LineInForm}
 use Rattle.forms.specs.Forms.{first_rule_kind}
 use Rattle.text.specs.Lines.{drawing_line, rule_line, Tabled}
 use Rattle.text.specs.declared.lines.Line.{Line as PackedLine}

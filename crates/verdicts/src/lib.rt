@@ -1,4 +1,6 @@
 // What drawing files and rule texts are both read with: what is found of a line, and of a text; whether a further edge conforms; the next line.
+#![tactic(auto)]
+
 ghost use Rattle.std.specs.Prelude.{◌≡◌, true, not, ◌&&◌, map, ◌<◌, ◌^◌};
 ghost use Rattle.model.specs.Graph.{has, of_kind};
 ghost use Rattle.graph.specs.Packed.{unpack_triple, triples_rise, unpack_declared, triple};
@@ -12,13 +14,13 @@ use model::Refusal;
 pub mod lines;
 
 // A line passes under the lines above it, or is refused.
-#[derive(Drop)]
+#[derive(Clone, Copy)]
 pub enum Verdict {
     Passes,
     Fails(Refusal),
 }
 
-#[derive(Drop)]
+#[derive(Clone, Copy)]
 pub enum Answer {
     Accepted,
     Refused(Refusal),

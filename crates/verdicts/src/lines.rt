@@ -6,7 +6,7 @@ use numerals::scan::find;
 use text::lines::{Line, Parsed, drawing_line, rule_line};
 
 // A line, and where the next one begins; or a line out of form.
-#[derive(Drop)]
+#[derive(Clone, Copy)]
 pub enum Next {
     Line(Line, usize),
     Malformed,

@@ -4,7 +4,7 @@ use Rattle.std.proofs.Common.{arith, add-one, ap, ◌∙◌, subst, drop_of_leng
 use Rattle.std.proofs.Math.Path.{sym}
 use mathlib.Core.List.Memᴰ
 use Rattle.lists.specs.Lists.{◌∈◌, any, ◌!◌, Below}
-use Rattle.lists.specs.Laws.Lists.{in-keep, in_map}
+use Rattle.lists.proofs.Laws.Lists.{in-keep, in_map}
 use Rattle.model.specs.Graph.{Instance}
 use Rattle.model.specs.Refusals.{Outcome, accepted, ◌>>=◌, in_turn}
 use Rattle.model.specs.declared.Refusal.{Refusal}

@@ -4,7 +4,7 @@ use Prim.Native.Nat.{ℕ, ◌+◌, ◌*◌, ◌/◌, ◌%◌, ◌^◌, ◌<◌, 
 use Rattle.std.proofs.Common.{arith, ap₂, ◌∙◌, subst}
 use Rattle.std.specs.Prelude.{◌≡◌, refl, ◌↔◌, true, false, ◌&&◌, ◌||◌, length, take}
 use Rattle.std.proofs.Math.Path.{ap, sym}
-use Rattle.std.proofs.Math.Logic.{Iff·rfl}
+use Rattle.std.proofs.Math.Logic.Iff
 use Rattle.std.proofs.Math.Bool.{Bool, cond}
 use mathlib.Core.List.Memᴰ
 use mathlib.Core.List.{List, [], ◌∷◌, ◌++◌, map, map-map, foldl}
@@ -13,16 +13,16 @@ use Rattle.std.proofs.Math.Dec.{eqb}
 use borrow.Author.Tests.{eq-eqb, ne_eqb, eqb-true}
 use Rattle.lists.specs.Lists.{◌∈◌, any, keep, each, ◌!◌, member, same_set, Below}
 use Rattle.lists.specs.Order.{same}
-use Rattle.lists.specs.Laws.Lists.{both, same_truth, same_set_lem, in-keep, in_map, keep-map, keep-length}
-use Rattle.lists.specs.Laws.Maps.{each_same, map_same, map_back, keep_same}
-use Rattle.lists.specs.Laws.Order.{same-list}
+use Rattle.lists.proofs.Laws.Lists.{both, same_truth, same_set_lem, in-keep, in_map, keep-map, keep-length}
+use Rattle.lists.proofs.Laws.Maps.{each_same, map_same, map_back, keep_same}
+use Rattle.lists.proofs.Laws.Order.{same-list}
 use Rattle.model.specs.Limits
 use Rattle.model.specs.Graph.{Scheme, Instance, Pattern, of_class, stands}
 use Rattle.model.specs.Matching.{matchings}
 use Rattle.model.specs.Operations.{abstract, with_node, new_nodes, images_of, targets, groups, grouped, group_arms, abstraction}
 use Rattle.model.specs.Refusals.{Outcome, accepted, refused, ◌>>=◌, in_turn}
 use Rattle.model.specs.Sound.{Sound, SoundRule, suits}
-use Rattle.model.specs.Laws.Graph.{stands-node, of-class, joins-triple, listed-instance}
+use Rattle.model.proofs.Laws.Graph.{stands-node, of-class, joins-triple, listed-instance}
 use Rattle.keys.specs.Keys.{keys_rise, Front}
 use Rattle.keys.specs.Laws.Keys.{rise-cons, keys-determined, keep-rises}
 use Rattle.graph.specs.Packed.{unpack_triple, unpack_node, unpack_arm, instance_of, unpack_instance}
@@ -87,7 +87,7 @@ same-rising : (xs ys : List ℕ) → keys_rise xs ≡ true → keys_rise ys ≡ 
 same-rising xs ys h k =
     same_truth (same_set xs ys) (same xs ys) (
       (λ t. (same-list xs ys).1 (keys-determined xs ys h k (λ i. ((same_set_lem xs ys).0 t i).0) (λ i. ((same_set_lem xs ys).0 t i).1))),
-      λ t. (same_set_lem xs ys).1 (λ i. subst (λ (l : List ℕ). (i ∈ xs) ↔ (i ∈ l)) ((same-list xs ys).0 t) Iff·rfl),
+      λ t. (same_set_lem xs ys).1 (λ i. subst (λ (l : List ℕ). (i ∈ xs) ↔ (i ∈ l)) ((same-list xs ys).0 t) Iff.rfl),
     )
 
 same-symmetric : (xs ys : List ℕ) → same xs ys ≡ same ys xs

@@ -11,7 +11,7 @@ use Rattle.model.specs.Refusals.{Outcome, accepted, refused}
 use Rattle.model.specs.Record.{Record, opened, Report, nothing, counted, Left, Apply, Undo, accept}
 use Rattle.model.specs.Answers.{apply_answer}
 use Rattle.model.specs.Files.RuleText.{read_rule}
-use Rattle.model.specs.Laws.Outcomes.{then-accepted, made-refused}
+use Rattle.model.proofs.Laws.Outcomes.{then-accepted, made-refused}
 use Rattle.model.specs.declared.ApplyAnswer.TheVariants as apply-answer
 use Rattle.model.specs.declared.Counts.{Counts}
 use Rattle.model.specs.declared.Refusal.{Refusal}
@@ -29,8 +29,8 @@ use Rattle.history.specs.declared.Popped.{Popped}
 use Rattle.history.specs.Histories.{PoppedOff, PushedOn}
 use Rattle.session.specs.Sessions.{unpack_session, StoredSession, Stepped}
 use Rattle.calls.specs.Within.{ChangedTo, AppliesRule}
-use Rattle.session.specs.Laws.Steps.{shut-is, open_is, refused-steps, accepted-steps}
-use Rattle.lists.specs.Laws.Lists.{in-cons, in_take, map-take}
+use Rattle.session.proofs.Laws.Steps.{shut-is, open_is, refused-steps, accepted-steps}
+use Rattle.lists.proofs.Laws.Lists.{in-cons, in_take, map-take}
 use Rattle.graph.specs.declared.history.History.{History}
 use Rattle.graph.specs.declared.instance.PackedInstance.{PackedInstance}
 

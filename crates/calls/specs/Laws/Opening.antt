@@ -20,8 +20,8 @@ use Rattle.session.specs.declared.Session.{Session}
 use Rattle.calls.specs.declared.OpenLeft.{OpenLeft}
 use Rattle.session.specs.Sessions.{unpack_session, StoredSession, NewSession, Stepped}
 use Rattle.calls.specs.Within.{OpenedWith}
-use Rattle.session.specs.Laws.Steps.{shut-is, open_is, refused-steps, accepted-steps}
-use Rattle.session.specs.Laws.Fresh.{fresh-depth, fresh-copies}
+use Rattle.session.proofs.Laws.Steps.{shut-is, open_is, refused-steps, accepted-steps}
+use Rattle.session.proofs.Laws.Fresh.{fresh-depth, fresh-copies}
 
 -- # Open
 -- "Open, on an accepted file, sets scheme and drawing, with no copies."

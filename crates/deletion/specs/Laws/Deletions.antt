@@ -4,17 +4,17 @@ use Rattle.std.specs.Prelude.{ℕ, ◌<◌, ◌≤◌, ◌^◌, ◌≡◌, not, 
 use Rattle.std.proofs.Common.{arith, ap, ap₂, ◌∙◌, sym, eqb-true}
 use mathlib.Core.List.{List, [], ◌∷◌, map, foldl}
 use Rattle.lists.specs.Lists.{◌∈◌, all, member, Below}
-use Rattle.lists.specs.Laws.Lists.{both, any-member}
-use Rattle.lists.specs.Laws.Maps.{keep_same, map_back}
+use Rattle.lists.proofs.Laws.Lists.{both, any-member}
+use Rattle.lists.proofs.Laws.Maps.{keep_same, map_back}
 use Rattle.model.specs.Limits
 use Rattle.model.specs.Graph.{Triple, Scheme, Node, Instance, Pattern, has, of_class}
 use Rattle.model.specs.Matching.{matchings}
 use Rattle.model.specs.Operations.{delete_node, delete_edges, images, images_of, node_deletion, edge_deletion}
 use Rattle.model.specs.Sound.{Sound, SoundRule, suits, some_edges}
-use Rattle.model.specs.Laws.Graph.{stands-node, joins-triple, listed-scheme, listed-instance}
-use Rattle.model.specs.Laws.Sound.{well-formed}
+use Rattle.model.proofs.Laws.Graph.{stands-node, joins-triple, listed-scheme, listed-instance}
+use Rattle.model.proofs.Laws.Sound.{well-formed}
 use Rattle.graph.specs.Packed.{pack_triple, unpack_triple}
-use Rattle.graph.specs.Laws.Triples.{unpack-packed}
+use Rattle.graph.proofs.Laws.Triples.{unpack-packed}
 use Rattle.notes.specs.Notes.{sorted}
 use Rattle.notes.specs.Visits.{visited}
 use Rattle.notes.specs.Laws.Images.{image-noted, noted-below, edge-noted}

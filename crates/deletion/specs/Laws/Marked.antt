@@ -12,8 +12,8 @@ use Rattle.std.proofs.lemmas.Nat.{shl-shr, or_shr, or_mod}
 use Rattle.std.specs.Int.Bits.{bit_or, or_zero_r}
 use borrow.Author.Tests.{eq-eqb, ne_eqb, lt-ltb, le-ltb}
 use Rattle.lists.specs.Lists.{member, ◌!◌, Below}
-use Rattle.lists.specs.Laws.Lists.{any_append}
-use Rattle.lists.specs.Laws.Places.{at_place}
+use Rattle.lists.proofs.Laws.Lists.{any_append}
+use Rattle.lists.proofs.Laws.Places.{at_place}
 use Rattle.graph.specs.Packed.{bit}
 use Rattle.deletion.specs.Deleted.{words, marked, Marks}
 

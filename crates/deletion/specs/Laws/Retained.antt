@@ -7,13 +7,13 @@ use Rattle.std.proofs.Math.Bool.{not}
 use mathlib.Core.List.{List, [], ◌∷◌, ◌++◌, map, append-nil}
 use borrow.Author.Tests.{eq-eqb, ne_eqb, not-true, not-false}
 use Rattle.lists.specs.Lists.{keep, member, ◌!◌}
-use Rattle.lists.specs.Laws.Lists.{keep_append, keep-map, keep-length}
-use Rattle.lists.specs.Laws.Maps.{keep_same}
+use Rattle.lists.proofs.Laws.Lists.{keep_append, keep-map, keep-length}
+use Rattle.lists.proofs.Laws.Maps.{keep_same}
 use Rattle.model.specs.Graph.{Triple, Node}
 use Rattle.model.specs.Limits
 use Rattle.keys.specs.Keys.{keys_rise, Front}
 use Rattle.graph.specs.Packed.{unpack_node, unpack_triple, pack_triple, unpack_instance, Fits}
-use Rattle.graph.specs.Laws.Triples.{packed-unpack}
+use Rattle.graph.proofs.Laws.Triples.{packed-unpack}
 use Rattle.graph.specs.declared.instance.PackedInstance.{PackedInstance}
 use Rattle.deletion.specs.Deleted.{words, marked, Marks, goes, Tells, WithoutNodes, WithoutEdges}
 

@@ -6,14 +6,14 @@ use Rattle.std.proofs.Math.Path.{sym}
 use Rattle.std.proofs.Math.Bool.{not}
 use Rattle.lists.specs.Lists.{any, find}
 use Rattle.lists.specs.Order.{rising}
-use Rattle.lists.specs.Laws.Lists.{both, equals, same_truth}
+use Rattle.lists.proofs.Laws.Lists.{both, equals, same_truth}
 use Rattle.model.specs.Graph.{has, of_kind, stands, permits}
 use Rattle.graph.specs.Packed.{unpack_triple, unpack_node, unpack_declared, scheme_of, instance_of, found_node, triple}
 use Rattle.graph.specs.declared.declarations.Declarations.{Declarations}
 use Rattle.graph.specs.declared.instance.Found.{Found}
 use Rattle.graph.specs.declared.instance.Found.TheVariants.{At, Nothing}
 use Rattle.verdicts.specs.Verdicts.{last_shares}
-use Rattle.verdicts.specs.Laws.Edges.{joins-classes, absent, found-stands, found-class}
+use Rattle.verdicts.proofs.Laws.Edges.{joins-classes, absent, found-stands, found-class}
 use Rattle.drawing_lines.specs.DrawingLines.{node_checks}
 
 -- # A node's value

@@ -6,11 +6,11 @@ use Rattle.std.proofs.Math.Numerals.{add-one}
 use Rattle.std.proofs.Math.Path.{refl, sym}
 use Rattle.std.proofs.lemmas.List.{length-map}
 use Rattle.lists.specs.Radix.{within, unrank}
-use Rattle.lists.specs.Laws.Lists.{both, less}
+use Rattle.lists.proofs.Laws.Lists.{both, less}
 use Rattle.model.specs.Graph.{Scheme, Instance}
 use Rattle.model.specs.Files.{checks, full}
 use Rattle.model.specs.Files.DrawingFile.{DrawingKey, class=, name=, drawing_form, drawing_format}
-use Rattle.model.specs.Laws.Lines.{LineInForm}
+use Rattle.model.specs.InForm.{LineInForm}
 use Rattle.model.specs.declared.Refusal.TheVariants.{Malformed, TooMany}
 use Rattle.forms.specs.Forms.{first_rule_kind, kind_at, drawing_key}
 use Rattle.text.specs.Lines.{drawing_line, follows_last}
@@ -19,7 +19,7 @@ use Rattle.text.specs.declared.lines.Line.{Line}
 use Rattle.text.specs.declared.lines.Last.{Last}
 use Rattle.graph.specs.Packed.{unpack_triple, unpack_node}
 use Rattle.verdicts.specs.Verdicts.{judged}
-use Rattle.verdicts.specs.Laws.Tests.{judged-passes, failed, passed, verdict-malformed, verdict-crowded, verdict-judged}
+use Rattle.verdicts.proofs.Laws.Tests.{judged-passes, failed, passed, verdict-malformed, verdict-crowded, verdict-judged}
 use Rattle.verdicts.specs.declared.Verdict.{Verdict}
 use Rattle.verdicts.specs.declared.Verdict.TheVariants.{Passes, Fails}
 use Rattle.standing.specs.Held.{scheme_held, instance_held, Fits}

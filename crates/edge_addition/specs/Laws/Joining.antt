@@ -12,13 +12,13 @@ use Rattle.std.proofs.Math.Seq.{take-append_seam, take-length}
 use Rattle.lists.specs.Lists.{◌∈◌, any, find, ◌!◌}
 use Rattle.lists.specs.Buffers.{at_front}
 use Rattle.lists.specs.Order.{Smallest}
-use Rattle.lists.specs.Laws.Lists.{both, not_so, equals, differs, fails, in-cons, in_map, any-member, finds-none}
-use Rattle.lists.specs.Laws.Order.{find-smallest, before-number}
+use Rattle.lists.proofs.Laws.Lists.{both, not_so, equals, differs, fails, in-cons, in_map, any-member, finds-none}
+use Rattle.lists.proofs.Laws.Order.{find-smallest, before-number}
 use Rattle.model.specs.Limits
 use Rattle.model.specs.Graph.{Triple, Scheme, Node, Instance, of_kind, clash, torn, nodes_rise}
 use Rattle.model.specs.declared.Refusal.TheVariants.{EdgesFull, FunctionalClash}
-use Rattle.model.specs.Laws.Graph.{stands-node}
-use Rattle.model.specs.Laws.Sound.{well-formed}
+use Rattle.model.proofs.Laws.Graph.{stands-node}
+use Rattle.model.proofs.Laws.Sound.{well-formed}
 use Rattle.keys.specs.Keys.{keys_rise}
 use Rattle.keys.specs.Laws.Keys.{rise-cons}
 use Rattle.graph.specs.Packed.{unpack_triple, unpack_declared, unpack_scheme, unpack_instance, Fits, StoredInstance, found_number}

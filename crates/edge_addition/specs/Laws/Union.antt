@@ -8,20 +8,20 @@ use Rattle.std.proofs.Math.ListN.{length}
 use Rattle.std.proofs.lemmas.List.{length-map}
 use borrow.Author.Tests.{lt-ltb, ltb-true, ltb-false}
 use Rattle.lists.specs.Lists.{◌∈◌, each, ◌!◌}
-use Rattle.lists.specs.Laws.Lists.{both, all-members, in_map, in-each}
-use Rattle.lists.specs.Laws.Maps.{each_same, map_same, map_each}
+use Rattle.lists.proofs.Laws.Lists.{both, all-members, in_map, in-each}
+use Rattle.lists.proofs.Laws.Maps.{each_same, map_same, map_each}
 use Rattle.model.specs.Limits
 use Rattle.model.specs.Graph.{Triple, Scheme, Instance, Pattern, stands}
 use Rattle.model.specs.Matching.{image, matchings}
 use Rattle.model.specs.Operations.{add_edges, join_edges, images, edge_addition}
 use Rattle.model.specs.Sound.{Sound, SoundRule, suits}
-use Rattle.model.specs.Laws.Graph.{stands-node, listed-instance, ListedInstance, listed-pattern}
-use Rattle.model.specs.Laws.Matchings.{image-node}
-use Rattle.model.specs.Laws.Sound.{permits-stand}
-use Rattle.keys.specs.Keys.{keys_rise}
+use Rattle.model.proofs.Laws.Graph.{stands-node, listed-instance, ListedInstance, listed-pattern}
+use Rattle.model.proofs.Laws.Matchings.{image-node}
+use Rattle.model.proofs.Laws.Sound.{permits-stand}
+use Rattle.keys.specs.Keys.{keys_rise, join_key}
 use Rattle.graph.specs.Packed.{unpack_triple, instance_of}
-use Rattle.graph.specs.Laws.Keys.{rising-triples, join-triple}
-use Rattle.graph.specs.Laws.Triples.{unpack-packed}
+use Rattle.graph.proofs.Laws.Keys.{rising-triples, join-triple}
+use Rattle.graph.proofs.Laws.Triples.{unpack-packed}
 use Rattle.notes.specs.Notes.{most, note_all, sorted}
 use Rattle.notes.specs.Visits.{edge_key, keys_at, visited}
 use Rattle.notes.specs.Laws.Noting.{join_all, in-sorted, sorted-rising, sorted-length, noted-most, noted-append, noted-from, noted-rising}
@@ -31,7 +31,7 @@ use Rattle.edge_addition.specs.Joined.{SourcesIn, joined_to}
 joined-triples : (es ks : List ℕ) → map unpack_triple (join_all es ks) ≡ join_edges (map unpack_triple ks) (map unpack_triple es)
 joined-triples es [] = refl
 joined-triples es (k ∷ ks) =
-    joined-triples _ ks ∙ ap (join_edges (map unpack_triple ks)) (join-triple k es)
+    joined-triples (join_key k es) ks ∙ ap (join_edges (map unpack_triple ks)) (join-triple k es)
 
 module _ (s : Scheme) (p : Pattern) (nodes edges parts : List ℕ) (sound : Sound s (instance_of nodes edges))
     (rule : SoundRule s (record { pattern = p; action = add_edges (map unpack_triple parts) })) where

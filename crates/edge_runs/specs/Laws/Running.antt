@@ -1,6 +1,6 @@
 -- Runs, as code walks them: a run begins at its place among rising keys, and a key of another run ends it.
 -- By what is left of the keys from a place on: they rise, and none is below the run.
-use Rattle.std.specs.Prelude.{ℕ, zero, suc, ◌+◌, ◌*◌, ◌-◌, ◌/◌, ◌%◌, ◌^◌, ◌<◌, ◌≤◌, ◌≡◌, Bool, cond, not, take, drop, set}
+use Rattle.std.specs.Prelude.{ℕ, suc, ◌+◌, ◌*◌, ◌-◌, ◌/◌, ◌%◌, ◌^◌, ◌<◌, ◌≤◌, ◌≡◌, Bool, cond, not, take, drop, set}
 use native.Mathlib.Omega.{arith}
 use Rattle.std.proofs.Common.{add-one, ◌∙◌, Fits, length-set, drop_of_length-le, drop-cons, take_all, take-suc, take-take, length-take-le, get_or-take}
 use Rattle.std.proofs.Math.Path.{refl, ap, sym}
@@ -14,9 +14,9 @@ use Rattle.std.proofs.Math.Dec.{eqb, ltb}
 use borrow.Author.Tests.{ltb-true, ltb-false, lt-ltb, le-ltb, eq-eqb, ne_eqb, eqb-true, eqb-false}
 use Rattle.lists.specs.Lists.{◌∈◌, any, keep, ◌!◌, Below}
 use Rattle.lists.specs.Order.{same}
-use Rattle.lists.specs.Laws.Lists.{in-cons, in_take, keep-none, map-take}
-use Rattle.lists.specs.Laws.OneMore.{stored_last}
-use Rattle.lists.specs.Laws.Places.{at_place, map_at}
+use Rattle.lists.proofs.Laws.Lists.{in-cons, in_take, keep-none, map-take}
+use Rattle.lists.proofs.Laws.OneMore.{stored_last}
+use Rattle.lists.proofs.Laws.Places.{at_place, map_at}
 use Rattle.keys.specs.Keys.{keys_rise, place_of}
 use Rattle.keys.specs.Laws.Keys.{rise-cons, place-within, search-hit, search-on, search-past}
 use Rattle.edge_runs.specs.Runs.{run_of, lowest, targets_at, Starts, Lookup, has_targets}

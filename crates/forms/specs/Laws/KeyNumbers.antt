@@ -1,12 +1,12 @@
 -- A key's number, which is that of no other text.
 -- By what is left of the text, as a loop over it goes: what is read and what is left give what the whole does.
-use Rattle.std.specs.Prelude.{ℕ, zero, suc, ◌+◌, ◌*◌, ◌-◌, ◌^◌, ◌<◌, ◌≤◌, ◌≡◌, refl, Bool, true, false, List, [], ◌∷◌, eqb, ltb, length, get_or, take, drop}
+use Rattle.std.specs.Prelude.{ℕ, zero, suc, ◌+◌, ◌*◌, ◌^◌, ◌<◌, ◌≤◌, ◌≡◌, refl, Bool, true, false, List, [], ◌∷◌, eqb, ltb, length, get_or, take, drop}
 use Rattle.std.proofs.Common.{arith, add-one, pow-suc, ap, ◌∙◌, sym, drop_of_length-le, drop-cons, eq-eqb, eqb-true, lt-ltb, le-ltb, ltb-true, ltb-false}
 use Rattle.std.proofs.Math.Nat.{pow-le-pow_right}
 use Rattle.lists.specs.Lists.{all}
 use Rattle.lists.specs.Order.{same}
-use Rattle.lists.specs.Laws.Lists.{both, same_truth}
-use Rattle.lists.specs.Laws.Order.{same-list}
+use Rattle.lists.proofs.Laws.Lists.{both, same_truth}
+use Rattle.lists.proofs.Laws.Order.{same-list}
 use Rattle.forms.specs.Forms.{key_from, key_number}
 
 -- each number of the text is a byte

@@ -12,11 +12,11 @@ use Rattle.std.proofs.Math.Dec.{leb}
 use Rattle.lists.specs.Lists.{all, count_from, ◌!◌}
 use Rattle.lists.specs.Order.{same}
 use Rattle.lists.specs.Radix.{product, within, lowest}
-use Rattle.lists.specs.Laws.Lists.{both, less, at_most, not_so, all-members, in_count}
-use Rattle.lists.specs.Laws.Order.{same-list}
-use Rattle.lists.specs.Laws.Places.{at_place, get_d-inside, count_at}
-use Rattle.lists.specs.Laws.Apart.{apart-determined}
-use Rattle.lists.specs.Laws.Count.{within-cons, within-length}
+use Rattle.lists.proofs.Laws.Lists.{both, less, at_most, not_so, all-members, in_count}
+use Rattle.lists.proofs.Laws.Order.{same-list}
+use Rattle.lists.proofs.Laws.Places.{at_place, get_d-inside, count_at}
+use Rattle.lists.proofs.Laws.Apart.{apart-determined}
+use Rattle.lists.proofs.Laws.Count.{within-cons, within-length}
 use Rattle.model.specs.Files.{full}
 use Rattle.model.specs.Files.DrawingFile.{DrawingKey, class=, name=, may=, node=, edge=, drawing_form}
 use Rattle.model.specs.Files.RuleText.{RuleKey, op=, pnode=, pedge=, make=, arm=, put=, drop=, cut=, group=, rule_form}

@@ -10,23 +10,23 @@ use Rattle.std.proofs.Math.Seq.{length-take-le, take-length, paste, paste-zero, 
 use Rattle.std.proofs.lemmas.List.Edits.{length-paste, take-paste}
 use borrow.Author.Tests.{lt-ltb, le-ltb, ltb-false, leb-false, le-leb, lt-leb}
 use Rattle.lists.specs.Lists.{◌∈◌, Below, ◌!◌}
-use Rattle.lists.specs.Laws.Lists.{in-append, in_map}
-use Rattle.lists.specs.Laws.Maps.{map_same}
-use Rattle.lists.specs.Laws.OneMore.{stored_last}
-use Rattle.lists.specs.Laws.Order.{rising-append}
-use Rattle.lists.specs.Laws.Places.{at_place, map_at}
+use Rattle.lists.proofs.Laws.Lists.{in-append, in_map}
+use Rattle.lists.proofs.Laws.Maps.{map_same}
+use Rattle.lists.proofs.Laws.OneMore.{stored_last}
+use Rattle.lists.proofs.Laws.Order.{rising-append}
+use Rattle.lists.proofs.Laws.Places.{at_place, map_at}
 use Rattle.model.specs.Limits
 use Rattle.model.specs.Graph.{Node, Instance}
 use Rattle.model.specs.Operations.{next_number, with_node}
 use Rattle.model.specs.Meaning.{edge_at}
 use Rattle.model.specs.Refusals.{accepted, refused}
-use Rattle.model.specs.Laws.NewNodes.{below_next, grown}
+use Rattle.model.proofs.Laws.NewNodes.{below_next, grown}
 use Rattle.model.specs.declared.Refusal.{Refusal}
 use Rattle.model.specs.declared.Refusal.TheVariants.{NodesFull, NumbersFull, EdgesFull}
 use Rattle.keys.specs.Keys.{keys_rise}
 use Rattle.keys.specs.Laws.Keys.{rise-cons}
 use Rattle.graph.specs.Packed.{unpack_node, unpack_triple, unpack_arm, triple}
-use Rattle.lists.specs.Laws.Order.{before-number}
+use Rattle.lists.proofs.Laws.Order.{before-number}
 use Rattle.growth.specs.Growth.{verdict_for, judged, held, Growing, Grows}
 use Rattle.growth.specs.declared.Verdict.{Verdict}
 use Rattle.growth.specs.declared.Verdict.TheVariants.{Done, Refused}

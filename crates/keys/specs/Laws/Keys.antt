@@ -10,11 +10,10 @@ use Rattle.std.proofs.Math.Seq.{append_snoc, take-set-lt}
 use Rattle.std.proofs.lemmas.List.{set_split, take-set-le}
 use borrow.Author.Tests.{ltb-true, lt-ltb, le-ltb, eq-eqb, ne_eqb, ltb-false, eqb-true, eqb-false}
 use Rattle.lists.specs.Lists.{◌∈◌, any, keep, member, ◌!◌}
-use Rattle.lists.specs.Order.{rising}
-use Rattle.lists.specs.Laws.Lists.{in-cons, same_truth, in-numbers, keep-none, keep_all, keep-length, any-member, in_map, fails}
-use Rattle.lists.specs.Laws.Maps.{map_back}
-use Rattle.lists.specs.Laws.Places.{at_place}
-use Rattle.lists.specs.Laws.Order.{before-number, rising-map, rising-map-keep, rising-determined}
+use Rattle.lists.proofs.Laws.Lists.{in-cons, same_truth, in-numbers, keep-none, keep_all, keep-length, any-member, in_map, fails}
+use Rattle.lists.proofs.Laws.Maps.{map_back}
+use Rattle.lists.proofs.Laws.Places.{at_place}
+use Rattle.lists.proofs.Laws.Order.{before-number, rising-map, rising-map-keep, rising-determined}
 use Rattle.keys.specs.Keys.{keys_rise, place_of, join_key}
 
 -- # Rising keys

@@ -9,7 +9,7 @@ use Rattle.std.proofs.Math.ListN.{drop_of_length-le}
 use Rattle.std.proofs.Math.Seq.{take-length, take-set-lt}
 use Rattle.std.proofs.lemmas.List.{set_split}
 use Rattle.lists.specs.Lists.{◌!◌, Below}
-use Rattle.lists.specs.Laws.Lists.{in-cons}
+use Rattle.lists.proofs.Laws.Lists.{in-cons}
 use Rattle.model.specs.Refusals.{◌>>=◌}
 use Rattle.model.specs.declared.Refusal.{Refusal}
 use Rattle.graph.specs.Packed.{unpack_instance}

@@ -10,13 +10,13 @@ use Rattle.std.proofs.Math.Option.{Option, none, some}
 use mathlib.Core.List.Memᴰ
 use mathlib.Core.List.{List, [], ◌∷◌, map}
 use Rattle.lists.specs.Lists.{◌∈◌, find}
-use Rattle.lists.specs.Laws.Lists.{both, not_so, equals, in-cons, in_map, in-each, finds-none}
-use Rattle.lists.specs.Laws.Apart.{found-member}
+use Rattle.lists.proofs.Laws.Lists.{both, not_so, equals, in-cons, in_map, in-each, finds-none}
+use Rattle.lists.proofs.Laws.Apart.{found-member}
 use Rattle.model.specs.Graph.{Triple, Scheme, Node, Instance, is_functional, clash}
 use Rattle.model.specs.Operations.{Arm, served}
 use Rattle.model.specs.Meaning.{edge_at}
-use Rattle.model.specs.Laws.Sound.{WellFormed}
-use Rattle.model.specs.Laws.Serves.{served-node}
+use Rattle.model.proofs.Laws.Sound.{WellFormed}
+use Rattle.model.proofs.Laws.Serves.{served-node}
 use Rattle.graph.specs.Packed.{unpack_triple, unpack_node, instance_of}
 use Rattle.serving.specs.Served.{first_target, served_key, served_keys, target_of, go_on, listed}
 use Rattle.node_addition.specs.Laws.Keyed.{key_after, key_of, Placed, placed_first, placed-rest, placed-not-less, placed-not-more, key-determines}

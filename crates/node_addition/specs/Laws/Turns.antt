@@ -11,8 +11,8 @@ use Rattle.std.proofs.lemmas.List.{length-map}
 use Rattle.std.proofs.Math.Seq.{drop-length, drop-append_seam}
 use Rattle.lists.specs.Lists.{◌∈◌, ◌!◌, member, Below}
 use Rattle.lists.specs.Order.{rising}
-use Rattle.lists.specs.Laws.Lists.{both, equals, any-member, all-members, fails, in-append, in_map, in-numbers}
-use Rattle.lists.specs.Laws.Apart.{rising-map-determines}
+use Rattle.lists.proofs.Laws.Lists.{both, equals, any-member, all-members, fails, in-append, in_map, in-numbers}
+use Rattle.lists.proofs.Laws.Apart.{rising-map-determines}
 use Rattle.model.specs.Limits
 use Rattle.model.specs.Graph.{Triple, Scheme, Node, Instance, Pattern, is_functional}
 use Rattle.model.specs.Matching.{matchings}
@@ -20,12 +20,12 @@ use Rattle.model.specs.Sound.{Sound, SoundRule, suits}
 use Rattle.model.specs.Refusals.{Outcome, accepted, refused, ◌>>=◌}
 use Rattle.model.specs.Operations.{Arm, add_node, with_node, arms_at, served, new_nodes, node_addition}
 use Rattle.model.specs.Meaning.{SourcesStand, edge_at, WithNew}
-use Rattle.model.specs.Laws.Graph.{stands-node, ListedScheme, listed-scheme}
-use Rattle.model.specs.Laws.Matchings.{in-matchings, sent-numbers}
-use Rattle.model.specs.Laws.Sound.{WellFormed, well-formed}
-use Rattle.model.specs.Laws.NewNodes.{grows}
-use Rattle.model.specs.Laws.Additions.{new-above, new-nodes-exactly}
-use Rattle.model.specs.Laws.Serves.{sources-stand, served-node}
+use Rattle.model.proofs.Laws.Graph.{stands-node, ListedScheme, listed-scheme}
+use Rattle.model.proofs.Laws.Matchings.{in-matchings, sent-numbers}
+use Rattle.model.proofs.Laws.Sound.{WellFormed, well-formed}
+use Rattle.model.proofs.Laws.NewNodes.{grows}
+use Rattle.model.proofs.Laws.Additions.{new-above, new-nodes-exactly}
+use Rattle.model.proofs.Laws.Serves.{sources-stand, served-node}
 use Rattle.graph.specs.Packed.{unpack_node, unpack_arm, instance_of}
 use Rattle.notes.specs.Notes.{most, note, note_all}
 use Rattle.notes.specs.Visits.{keys_at, visited}

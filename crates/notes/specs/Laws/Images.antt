@@ -7,19 +7,19 @@ use mathlib.Core.List.Memᴰ
 use mathlib.Core.List.{List, [], ◌∷◌, map, map-map, foldl}
 use Rattle.std.proofs.Math.ListN.{length, length-map}
 use Rattle.lists.specs.Lists.{◌∈◌, all, keep, each, member, ◌!◌, Below}
-use Rattle.lists.specs.Laws.Lists.{all-members, in-keep, in_map, in-each, in-numbers, in_count, same_truth}
-use Rattle.lists.specs.Laws.Maps.{each_same}
+use Rattle.lists.proofs.Laws.Lists.{all-members, in-keep, in_map, in-each, in-numbers, in_count, same_truth}
+use Rattle.lists.proofs.Laws.Maps.{each_same}
 use Rattle.model.specs.Graph.{Triple, Scheme, Instance, Pattern, stands, has, nodes_rise, pattern_listed}
 use Rattle.model.specs.Matching.{image, matchings}
 use Rattle.model.specs.Operations.{images, images_of}
 use Rattle.model.specs.Sound.{Sound}
-use Rattle.model.specs.Laws.Graph.{has-edge, stands-node, listed-instance, listed-pattern}
-use Rattle.model.specs.Laws.Matchings.{in-matchings, image-node}
-use Rattle.model.specs.Laws.Images.{in-images}
+use Rattle.model.proofs.Laws.Graph.{has-edge, stands-node, listed-instance, listed-pattern}
+use Rattle.model.proofs.Laws.Matchings.{in-matchings, image-node}
+use Rattle.model.proofs.Laws.Images.{in-images}
 use Rattle.keys.specs.Keys.{keys_rise}
 use Rattle.keys.specs.Laws.Keys.{keep-rises}
 use Rattle.graph.specs.Packed.{unpack_triple, pack_triple}
-use Rattle.graph.specs.Laws.Triples.{packed-unpack}
+use Rattle.graph.proofs.Laws.Triples.{packed-unpack}
 use Rattle.notes.specs.Notes.{most, note_all, sorted}
 use Rattle.notes.specs.Visits.{edge_key, joint_key, keys_at, visited}
 use Rattle.notes.specs.Laws.Noting.{sorted-as, sorted-member, same-member, in-noted, noted-few, visits-flat}

@@ -5,7 +5,7 @@ use Rattle.std.proofs.Common.{arith, ap, ◌∙◌, sym, inl, inr, ⊎_elim, len
 use mathlib.Core.List.{List, [], ◌∷◌, ◌++◌, foldl, foldl-append, append_assoc, append-nil}
 use mathlib.Core.List.Memᴰ
 use Rattle.lists.specs.Lists.{◌∈◌, keep, each, member}
-use Rattle.lists.specs.Laws.Lists.{in-cons, in-append, in-keep, in-numbers, same_truth, fails, keep-length}
+use Rattle.lists.proofs.Laws.Lists.{in-cons, in-append, in-keep, in-numbers, same_truth, fails, keep-length}
 use Rattle.keys.specs.Keys.{keys_rise, join_key}
 use Rattle.keys.specs.Laws.Keys.{rise-cons, keys-determined, in-join, join-rises, join-there, keep-rises}
 use Rattle.notes.specs.Notes.{most, note, note_all, sorted}

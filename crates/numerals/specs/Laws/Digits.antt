@@ -11,8 +11,8 @@ use Rattle.std.proofs.lemmas.List.{set_split}
 use Rattle.lists.specs.Decimal.{decimal, most_digits}
 use Rattle.lists.specs.Radix.{lowest}
 use Rattle.lists.specs.Buffers.{Writes}
-use Rattle.lists.specs.Laws.Decimal.{length-one, length_more, length-positive, word-length, decimal-lowest}
-use Rattle.lists.specs.Laws.Radix.{lowest-length}
+use Rattle.lists.proofs.Laws.Decimal.{length-one, length_more, length-positive, word-length, decimal-lowest}
+use Rattle.lists.proofs.Laws.Radix.{lowest-length}
 
 -- # Counting
 -- the last digit of the rest is counted already

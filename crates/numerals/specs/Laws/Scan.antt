@@ -1,6 +1,6 @@
 -- Where a byte stands and the pieces of a text there, and the numeral that a text is.
 -- By what is left of the text, as a loop over it goes: what is read and what is left give what the whole does.
-use Prim.Native.Nat.{ℕ, zero, suc, ◌+◌, ◌*◌, ◌-◌, ◌<◌, ◌≤◌}
+use Prim.Native.Nat.{ℕ, suc, ◌+◌, ◌*◌, ◌-◌, ◌<◌, ◌≤◌}
 use native.Mathlib.Omega.{arith}
 use Rattle.std.proofs.Common.{add-one, ap, ◌∙◌, drop_of_length-le}
 use Rattle.std.specs.Prelude.{◌≡◌, Bool, true, false, cond, ◌&&◌, eqb, ltb, get_or, take, drop}

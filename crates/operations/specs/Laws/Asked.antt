@@ -4,15 +4,15 @@ use Rattle.std.proofs.Common.{arith, sym, ◌∙◌}
 use Rattle.std.proofs.Math.Path.{refl}
 use Rattle.std.proofs.Math.Bool.{true}
 use Rattle.lists.specs.Lists.{Below}
-use Rattle.lists.specs.Laws.Lists.{in_map, both, all-members, any-member, equals}
+use Rattle.lists.proofs.Laws.Lists.{in_map, both, all-members, any-member, equals}
 use Rattle.model.specs.Limits
 use Rattle.model.specs.Graph.{Declared, Scheme, of_kind, is_functional}
 use Rattle.model.specs.Operations.{Action, add_node}
 use Rattle.model.specs.Sound.{Sound, SoundRule, suits}
-use Rattle.model.specs.Laws.Graph.{ListedDeclarations, listed-scheme, listed-instance}
+use Rattle.model.proofs.Laws.Graph.{ListedDeclarations, listed-scheme, listed-instance}
 use Rattle.keys.specs.Keys.{keys_rise}
 use Rattle.graph.specs.Packed.{unpack_instance, unpack_pattern, unpack_action, unpack_arm, instance_of, StoredInstance, StoredRule}
-use Rattle.graph.specs.Laws.Keys.{rising-triples}
+use Rattle.graph.proofs.Laws.Keys.{rising-triples}
 use Rattle.graph.specs.declared.instance.PackedInstance.{PackedInstance}
 use Rattle.graph.specs.declared.rule.PackedAction.{PackedAction}
 use Rattle.graph.specs.declared.rule.PackedRule.{PackedRule}

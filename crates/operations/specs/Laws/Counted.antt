@@ -14,8 +14,8 @@ use Rattle.model.specs.Refusals.{Outcome, accepted, refused}
 use Rattle.model.specs.Record.{counted}
 use Rattle.model.specs.Sound.{Sound}
 use Rattle.model.specs.Meaning.{adds-node, adds-edges, abstracts, deletes-node, deletes-edges}
-use Rattle.model.specs.Laws.Counts.{no_difference, counts-balance, additions-count-none-removed, deletions-count-none-added, pattern-only-counts-none}
-use Rattle.model.specs.Laws.Operations.{applied-is-sound}
+use Rattle.model.proofs.Laws.Counts.{no_difference, counts-balance, additions-count-none-removed, deletions-count-none-added, pattern-only-counts-none}
+use Rattle.model.proofs.Laws.Operations.{applied-is-sound}
 use Rattle.model.specs.declared.Counts.{Counts}
 use Rattle.model.specs.declared.Refusal.{Refusal}
 use Rattle.model.specs.declared.Difference.{Difference}

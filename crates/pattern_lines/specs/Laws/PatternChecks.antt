@@ -8,12 +8,12 @@ use Rattle.std.proofs.Math.Option.{none, some}
 use mathlib.Core.List.{List, [], ◌∷◌, map}
 use Rattle.std.proofs.lemmas.Bool.{eqb-false}
 use Rattle.lists.specs.Lists.{any, member}
-use Rattle.lists.specs.Laws.Lists.{both, equals, less, same_truth}
+use Rattle.lists.proofs.Laws.Lists.{both, equals, less, same_truth}
 use Rattle.model.specs.Graph.{Scheme, declares, has, joins, stands, of_class, permits, is_object, both_given}
 use Rattle.graph.specs.Packed.{unpack_triple, unpack_declared, unpack_pattern_node, unpack_pattern_nodes, scheme_of, pattern_of, triple}
-use Rattle.graph.specs.Laws.Triples.{has-triple}
+use Rattle.graph.proofs.Laws.Triples.{has-triple}
 use Rattle.graph.specs.declared.declarations.Declarations.{Declarations}
-use Rattle.verdicts.specs.Laws.Tests.{passed}
+use Rattle.verdicts.proofs.Laws.Tests.{passed}
 use Rattle.pattern_lines.specs.PatternLines.{pnode_checks, knows}
 use Rattle.pattern_lines.specs.Laws.Patterns.{stands-place, class_at, joins-place, permits-places}
 

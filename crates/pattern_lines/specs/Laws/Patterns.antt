@@ -8,12 +8,12 @@ use Rattle.std.proofs.lemmas.List.{map-append}
 use Rattle.std.proofs.lemmas.Simd.{map-map}
 use Rattle.lists.specs.Lists.{◌∈◌, count_from}
 use Rattle.lists.specs.Order.{rising}
-use Rattle.lists.specs.Laws.Order.{rising-count-from}
-use Rattle.lists.specs.Laws.Lists.{equals, same_truth, eqb-symmetric, in-cons}
+use Rattle.lists.proofs.Laws.Order.{rising-count-from}
+use Rattle.lists.proofs.Laws.Lists.{equals, same_truth, eqb-symmetric, in-cons}
 use Rattle.model.specs.Graph.{Triple, Scheme, Node, Pattern, has, joins, stands, of_class, permits}
-use Rattle.model.specs.Laws.Graph.{stands-node, of-class}
+use Rattle.model.proofs.Laws.Graph.{stands-node, of-class}
 use Rattle.graph.specs.Packed.{unpack_triple, unpack_pattern_node, unpack_pattern_nodes, pattern_of, triple}
-use Rattle.verdicts.specs.Laws.Edges.{joins-classes}
+use Rattle.verdicts.proofs.Laws.Edges.{joins-classes}
 
 -- # Nodes by their places
 node_at : (i : ℕ) (ks : List ℕ) (d : ℕ) → d < length ks → unpack_pattern_node (i + d) (get_or ks d 0) ∈ unpack_pattern_nodes i ks

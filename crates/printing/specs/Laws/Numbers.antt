@@ -4,7 +4,7 @@ use Rattle.std.specs.Prelude.{ℕ, suc, ◌-◌, ◌/◌, ◌%◌, ◌<◌, ◌�
 use Rattle.std.proofs.Common.{div-one, arith, ap, ap₂, ◌∙◌, sym, append_assoc, length-set, drop-cons, get_or-set_same, drop-set-lt}
 use Rattle.std.proofs.Math.Seq.{take-length}
 use Rattle.lists.specs.Radix.{product, unrank}
-use Rattle.lists.specs.Laws.Radix.{product-first, product-left, unrank-length, unrank-next}
+use Rattle.lists.proofs.Laws.Radix.{product-first, product-left, unrank-length, unrank-next}
 use Rattle.forms.specs.Forms.{kind_count, kind_at, most_numbers, padded, packed_form}
 use Rattle.forms.specs.Laws.Kinds.{kind-roomy, filled, form-numbers, form-few, form-room}
 use Rattle.forms.specs.declared.Form.{Form as PackedForm}

@@ -11,9 +11,9 @@ use borrow.Author.Rules.{part_to_end}
 use Rattle.lists.specs.Decimal.{decimal, most_digits}
 use Rattle.lists.specs.Radix.{unrank, lowest}
 use Rattle.lists.specs.Buffers.{Writes}
-use Rattle.lists.specs.Laws.Radix.{unrank-length}
-use Rattle.lists.specs.Laws.Buffers.{Unwritten, unwritten-all, part-fits, byte_fits, unwritten-part, unwritten-byte, unwritten-front, unwritten-none}
-use Rattle.lists.specs.Laws.Buffers.{last_written, writes-as-long}
+use Rattle.lists.proofs.Laws.Radix.{unrank-length}
+use Rattle.lists.proofs.Laws.Buffers.{Unwritten, unwritten-all, part-fits, byte_fits, unwritten-part, unwritten-byte, unwritten-front, unwritten-none}
+use Rattle.lists.proofs.Laws.Buffers.{last_written, writes-as-long}
 use Rattle.model.specs.Files.{commas}
 use Rattle.forms.specs.Forms.{kind_count, kind_at, most_numbers, padded, packed_form}
 use Rattle.printing.specs.Written.{most_of_numbers, ender, numbers_text, line_of, row_text}

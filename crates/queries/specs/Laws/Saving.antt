@@ -1,8 +1,7 @@
 -- What save leaves, while shut and while open: the writer leaves what the record leaves.
 use Rattle.std.specs.Prelude.{ℕ, ◌≡◌, refl, true, false, List}
-use Rattle.std.proofs.Common.{ap}
-use Rattle.model.specs.Refusals.{Outcome, refused}
-use Rattle.model.specs.Record.{Save, Report, Left, accept}
+use Rattle.model.specs.Refusals.{refused}
+use Rattle.model.specs.Record.{Save, accept}
 use Rattle.model.specs.Answers.{save_answer}
 use Rattle.model.specs.declared.Refusal.TheVariants.{NotOpen}
 use Rattle.model.specs.declared.SaveAnswer.{SaveAnswer}
@@ -10,7 +9,7 @@ use Rattle.graph.specs.Packed.{unpack_scheme, unpack_instance, unpack_history}
 use Rattle.writing.specs.Writers.{Saves}
 use Rattle.session.specs.declared.Session.{Session}
 use Rattle.session.specs.Sessions.{StoredSession, Stepped}
-use Rattle.session.specs.Laws.Steps.{shut-is, open_is, refused-steps, as_step}
+use Rattle.session.proofs.Laws.Steps.{shut-is, open_is, refused-steps, as_step}
 
 module _ {s : Session} {buffer : List ℕ} (stored : StoredSession s) where
   pub save-while-shut : s.opened ≡ false → Stepped (Save buffer) s (refused NotOpen) buffer s

@@ -19,19 +19,20 @@ use Rattle.model.specs.Refusals.{accepted, ◌>>=◌}
 use Rattle.model.specs.Files.{Line, full, numbers_of, follows, triple_of}
 use Rattle.model.specs.Files.DrawingFile.{DrawingKey, class=, name=, may=, node=, edge=, drawing_form, DrawingLines, declared_of, node_of, scheme_in, instance_in}
 use Rattle.model.specs.Files.DrawingFile.{drawing_checks, drawing_format, read_drawing}
-use Rattle.model.specs.Laws.Graph.{ListedDeclarations, listed-scheme}
-use Rattle.model.specs.Laws.Kinds.{object-not-value, value-class}
-use Rattle.model.specs.Laws.Lines.{LineInForm, text_of, Readable, read-iff}
-use Rattle.model.specs.Laws.Passing.{Passing, numbers-append}
-use Rattle.model.specs.Laws.DrawingFiles.{drawing-regular, contents_in, rows_in_lem}
-use Rattle.model.specs.Laws.SoundFiles.{accepted-is-sound}
+use Rattle.model.proofs.Laws.Graph.{ListedDeclarations, listed-scheme}
+use Rattle.model.proofs.Laws.Kinds.{object-not-value, value-class}
+use Rattle.model.specs.InForm.{LineInForm}
+use Rattle.model.proofs.Laws.Lines.{text_of, Readable, read-iff}
+use Rattle.model.proofs.Laws.Passing.{Passing, numbers-append}
+use Rattle.model.proofs.Laws.DrawingFiles.{drawing-regular, contents_in, rows_in_lem}
+use Rattle.model.proofs.Laws.SoundFiles.{accepted-is-sound}
 use Rattle.forms.specs.Forms.{drawing_kind}
 use Rattle.graph.specs.Packed.{triple_rooms, node_rooms, declared_rooms, unpack_triple, unpack_node}
-use Rattle.graph.specs.Laws.Fields.{triple-fields, node-fields, declared-fields}
+use Rattle.graph.proofs.Laws.Fields.{triple-fields, node-fields, declared-fields}
 use Rattle.verdicts.specs.Verdicts.{verdict, last_shares}
-use Rattle.verdicts.specs.Laws.Verdicts.{verdict_of, Agree, agree_same, verdict-agrees}
-use Rattle.verdicts.specs.Laws.Edges.{edge-conforms, node-conforms}
-use Rattle.verdicts.specs.Laws.InTurn.{none-later, rows-rise-with}
+use Rattle.verdicts.proofs.Laws.Verdicts.{verdict_of, Agree, agree_same, verdict-agrees}
+use Rattle.verdicts.proofs.Laws.Edges.{edge-conforms, node-conforms}
+use Rattle.verdicts.proofs.Laws.InTurn.{none-later, rows-rise-with}
 use Rattle.standing.specs.Held.{scheme_with, instance_with}
 use Rattle.drawing_lines.specs.DrawingLines.{may_checks, node_checks, edge_checks, line_checks, lines_above}
 

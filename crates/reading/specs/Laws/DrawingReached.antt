@@ -10,10 +10,10 @@ use mathlib.Core.List.Memᴰ
 use mathlib.Core.List.{List, [], ◌∷◌, ◌++◌, map, get_last?}
 use Rattle.lists.specs.Lists.{all}
 use Rattle.lists.specs.Order.{rising}
-use Rattle.lists.specs.Laws.Lists.{all-members, less, in-append}
-use Rattle.lists.specs.Laws.Order.{before-cons}
+use Rattle.lists.proofs.Laws.Lists.{all-members, less, in-append}
+use Rattle.lists.proofs.Laws.Order.{before-cons}
 use Rattle.lists.specs.Radix.{unrank}
-use Rattle.lists.specs.Laws.OneMore.{last-of-append, rising-last}
+use Rattle.lists.proofs.Laws.OneMore.{last-of-append, rising-last}
 use Rattle.model.specs.Limits
 use Rattle.model.specs.Graph.{Declared, Scheme, Instance, row, nodes_rise}
 use Rattle.model.specs.Sound.{Sound}
@@ -21,9 +21,9 @@ use Rattle.model.specs.Refusals.{accepted, refused, ◌>>=◌}
 use Rattle.model.specs.Files.{follows, full}
 use Rattle.model.specs.Files.DrawingFile.{DrawingKey, class=, name=, may=, node=, edge=, drawing_form, DrawingLines, scheme_in, instance_in}
 use Rattle.model.specs.Files.DrawingFile.{drawing_format, read_drawing}
-use Rattle.model.specs.Laws.Graph.{ListedDeclarations, listed-scheme, listed-instance}
-use Rattle.model.specs.Laws.Sound.{well-formed}
-use Rattle.model.specs.Laws.DrawingFiles.{contents_in}
+use Rattle.model.proofs.Laws.Graph.{ListedDeclarations, listed-scheme, listed-instance}
+use Rattle.model.proofs.Laws.Sound.{well-formed}
+use Rattle.model.proofs.Laws.DrawingFiles.{contents_in}
 use Rattle.model.specs.declared.Refusal.{Refusal}
 use Rattle.model.specs.declared.Refusal.TheVariants.{Malformed}
 use Rattle.forms.specs.Forms.{first_rule_kind, drawing_key}
@@ -37,8 +37,8 @@ use Rattle.verdicts.specs.Verdicts.{verdict}
 use Rattle.verdicts.specs.NextLine.{LineAt, NoLineAt}
 use Rattle.verdicts.specs.declared.Verdict.{Verdict}
 use Rattle.verdicts.specs.declared.Verdict.TheVariants.{Passes, Fails}
-use Rattle.verdicts.specs.Laws.Verdicts.{verdict_of}
-use Rattle.verdicts.specs.Laws.LineByLine.{Upto, upto-none, upto_next, out-of-form-read, failing-line-read, whole-read}
+use Rattle.verdicts.proofs.Laws.Verdicts.{verdict_of}
+use Rattle.verdicts.proofs.Laws.LineByLine.{Upto, upto-none, upto_next, out-of-form-read, failing-line-read, whole-read}
 use Rattle.standing.specs.Held.{scheme_with, instance_with}
 use Rattle.drawing_lines.specs.DrawingLines.{drawing_verdict, line_checks, lines_above}
 use Rattle.reading.specs.Laws.DrawingLines.{row_line, passing-sound, scheme-with, instance-with, line-verdict}

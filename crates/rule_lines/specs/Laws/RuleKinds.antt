@@ -6,7 +6,7 @@ use Rattle.std.proofs.Math.Path.{refl}
 use Rattle.std.proofs.Math.Bool.{true, cond, and-true}
 use Rattle.std.proofs.lemmas.Bool.{eqb-false}
 use Rattle.model.specs.Graph.{Pattern}
-use Rattle.model.specs.Laws.RuleActions.{code_of}
+use Rattle.model.specs.InForm.{code_of}
 use Rattle.forms.specs.Forms.{first_rule_kind, kind_count, rule_key}
 use Rattle.text.specs.declared.lines.Last.{Last}
 use Rattle.rule_lines.specs.RuleLines.{lines_above, placed}

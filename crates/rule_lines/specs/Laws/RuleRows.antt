@@ -14,7 +14,7 @@ use Rattle.text.specs.declared.lines.Line.{Line}
 use Rattle.graph.specs.Packed.{unpack_pattern_node, scheme_of, pattern_of}
 use Rattle.graph.specs.declared.declarations.Declarations.{Declarations}
 use Rattle.verdicts.specs.Verdicts.{judged}
-use Rattle.verdicts.specs.Laws.Tests.{judged-passes}
+use Rattle.verdicts.proofs.Laws.Tests.{judged-passes}
 use Rattle.verdicts.specs.declared.Verdict.{Verdict}
 use Rattle.verdicts.specs.declared.Verdict.TheVariants.{Passes}
 use Rattle.pattern_lines.specs.PatternLines.{pnode_checks}

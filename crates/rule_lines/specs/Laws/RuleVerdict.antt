@@ -6,12 +6,12 @@ use Rattle.std.proofs.Math.ListN.{length-map}
 use Rattle.std.proofs.Math.Seq.{length-take-le}
 use borrow.Author.Tests.{lt-ltb, ne_eqb}
 use Rattle.lists.specs.Order.{rising}
-use Rattle.lists.specs.Laws.Lists.{both}
+use Rattle.lists.proofs.Laws.Lists.{both}
 use Rattle.model.specs.Graph.{Scheme, row}
 use Rattle.model.specs.Files.{full}
 use Rattle.model.specs.Files.RuleText.{rule_form}
 use Rattle.model.specs.declared.Refusal.TheVariants.{Malformed, TooMany}
-use Rattle.model.specs.Laws.RuleActions.{code_of}
+use Rattle.model.specs.InForm.{code_of}
 use Rattle.forms.specs.Forms.{first_rule_kind, kind_count, kind_at, rule_key}
 use Rattle.text.specs.Lines.{follows_last}
 use Rattle.forms.specs.Laws.Kinds.{rule-form}
@@ -20,7 +20,7 @@ use Rattle.text.specs.declared.lines.Last.{Last}
 use Rattle.graph.specs.Packed.{unpack_triple, pattern_of, unpack_pattern}
 use Rattle.graph.specs.declared.rule.PackedRule.{PackedRule}
 use Rattle.verdicts.specs.Verdicts.{judged}
-use Rattle.verdicts.specs.Laws.Tests.{verdict-malformed, verdict-crowded, verdict-judged, failed, passed}
+use Rattle.verdicts.proofs.Laws.Tests.{verdict-malformed, verdict-crowded, verdict-judged, failed, passed}
 use Rattle.verdicts.specs.declared.Verdict.{Verdict}
 use Rattle.verdicts.specs.declared.Verdict.TheVariants.{Fails}
 use Rattle.rule_lines.specs.RuleLines.{line_checks, lines_above, placed, rule_verdict, nodes_in, edges_in, FitsRule, HeldRule, RowFits, Coming}

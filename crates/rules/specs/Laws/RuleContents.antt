@@ -7,13 +7,13 @@ use Rattle.std.proofs.Math.Option.{Option, some}
 use Rattle.std.proofs.lemmas.Simd.{map-map}
 use Rattle.std.proofs.lemmas.Bool.{eqb-false}
 use Rattle.lists.specs.Lists.{any, ◌!◌}
-use Rattle.lists.specs.Laws.Maps.{map_same}
+use Rattle.lists.proofs.Laws.Maps.{map_same}
 use Rattle.model.specs.Graph.{Triple, Node}
 use Rattle.model.specs.Operations.{Action, pattern_only, add_node, add_edges, delete_node, delete_edges, abstract}
 use Rattle.model.specs.Files.{numbers_of, triple_of}
 use Rattle.model.specs.Files.RuleText.{RuleKey, op=, pnode=, pedge=, make=, arm=, put=, drop=, cut=, group=, rule_form, RuleLines, nodes_from, pattern_in}
 use Rattle.model.specs.Files.RuleText.{arm_of, numbers_at, action_in, stand, has_code}
-use Rattle.model.specs.Laws.RuleActions.{code_of}
+use Rattle.model.specs.InForm.{code_of}
 use Rattle.graph.specs.Packed.{unpack_triple, unpack_arm, unpack_pattern_nodes, pattern_of}
 use Rattle.rules.specs.Rules.{Parts}
 use Rattle.rules.specs.Laws.RuleRows.{fields, Rows, turn, HasRows, last_of, gathered}

@@ -6,7 +6,7 @@ use Rattle.model.specs.Limits
 use Rattle.model.specs.Graph.{Scheme, row, scheme_listed}
 use Rattle.model.specs.Files.{full}
 use Rattle.model.specs.Files.RuleText.{rule_format, RuleKey, op=, pnode=, pedge=, make=, arm=, put=, drop=, cut=, group=, rule_form}
-use Rattle.model.specs.Laws.Graph.{listed-scheme}
+use Rattle.model.proofs.Laws.Graph.{listed-scheme}
 use Rattle.model.specs.declared.Refusal.{Refusal}
 use Rattle.model.specs.declared.Refusal.TheVariants.{Malformed}
 use Rattle.forms.specs.Forms.{first_rule_kind, rule_key}
@@ -21,10 +21,10 @@ use Rattle.verdicts.specs.declared.lines.Next.TheVariants as the-next
 use Rattle.verdicts.specs.declared.Verdict.{Verdict}
 use Rattle.verdicts.specs.declared.Verdict.TheVariants.{Passes, Fails}
 use Rattle.verdicts.specs.declared.Answer.TheVariants.{Accepted, Refused}
-use Rattle.verdicts.specs.Laws.Verdicts.{uncrowded}
+use Rattle.verdicts.proofs.Laws.Verdicts.{uncrowded}
 use Rattle.rule_lines.specs.RuleLines.{rule_verdict, FitsRule, HeldRule, Coming, lines_above}
 use Rattle.rule_lines.specs.Laws.RuleVerdict.{pattern-order, pattern-size}
-use Rattle.rules.specs.Rules.{Room, parts_of, KeptRule, is_complete, read_as, room_for}
+use Rattle.rules.specs.Rules.{Room, parts_of, KeptRule, is_complete, read_as, HasRoomFor}
 use Rattle.rules.specs.Readers.{ReadRule}
 use Rattle.rules.specs.declared.RuleRead.{RuleRead}
 use Rattle.rules.specs.Laws.RuleReached.{Reached, reached-none, reached-next, reached-held, out-of-form-refused, failing-refused, missing-refused}
@@ -37,7 +37,7 @@ room-left : (s : Scheme) (r : PackedRule) (last : Last) (l : Line) → FitsRule 
 unfolding rule_verdict lines_above
 room-left s r last l fits tabled kind e = record { kind = kind; tabled = tabled; room = go (rule_key l.kind) (uncrowded _ _ _ _ e) }
   where
-    go : (k : RuleKey) → full (rule_form k).most (lines_above (unpack_pattern r.pattern) r.action.count k) ≡ false → room_for r k
+    go : (k : RuleKey) → full (rule_form k).most (lines_above (unpack_pattern r.pattern) r.action.count k) ≡ false → HasRoomFor r k
     go op= c = tt
     go pnode= c = omega (arith, pattern-order r fits, leb-false Limits.pattern_nodes (length (unpack_pattern r.pattern).nodes) c)
     go pedge= c = omega (arith, pattern-size r fits, leb-false Limits.pattern_edges (length (unpack_pattern r.pattern).edges) c)

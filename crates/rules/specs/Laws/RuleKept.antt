@@ -6,7 +6,7 @@ use Rattle.std.proofs.Math.Path.{refl, sym}
 use Rattle.std.proofs.Math.Bool.{true, false}
 use Rattle.std.proofs.Math.ListN.{length}
 use borrow.Author.Tests.{lt-ltb, ne_eqb}
-use Rattle.lists.specs.Laws.OneMore.{stored_last}
+use Rattle.lists.proofs.Laws.OneMore.{stored_last}
 use Rattle.model.specs.Limits
 use Rattle.forms.specs.Forms.{first_rule_kind, kind_count, rule_key}
 use Rattle.text.specs.declared.lines.Line.{Line}

@@ -13,24 +13,24 @@ use Rattle.std.proofs.lemmas.List.{length-map}
 use Rattle.std.proofs.Math.Dec.{eqb, leb}
 use Rattle.lists.specs.Lists.{any, ◌!◌}
 use Rattle.lists.specs.Order.{rising}
-use Rattle.lists.specs.Laws.Lists.{both, any-member, no_member}
+use Rattle.lists.proofs.Laws.Lists.{both, any-member, no_member}
 use Rattle.model.specs.Graph.{Scheme, Pattern, declares, is_object, is_value, is_functional, joins, of_class, both_given, pattern_conforms, scheme_listed}
 use Rattle.model.specs.Files.{Checks, full, numbers_of, follows, in_place, crowded}
 use Rattle.model.specs.Files.RuleText.{RuleKey, op=, pnode=, pedge=, make=, arm=, put=, drop=, cut=, group=, rule_form, RuleLines, pattern_in, stand, has_code}
 use Rattle.model.specs.Files.RuleText.{rule_checks, rule_format}
-use Rattle.model.specs.Laws.Graph.{listed-scheme}
-use Rattle.model.specs.Laws.Kinds.{value-class}
-use Rattle.model.specs.Laws.Lines.{LineInForm}
-use Rattle.model.specs.Laws.Passing.{Passing}
-use Rattle.model.specs.Laws.RulePatterns.{pattern-conforms}
-use Rattle.model.specs.Laws.RuleActions.{led-by}
+use Rattle.model.proofs.Laws.Graph.{listed-scheme}
+use Rattle.model.proofs.Laws.Kinds.{value-class}
+use Rattle.model.specs.InForm.{LineInForm}
+use Rattle.model.proofs.Laws.Passing.{Passing}
+use Rattle.model.proofs.Laws.RulePatterns.{pattern-conforms}
+use Rattle.model.proofs.Laws.RuleActions.{led-by}
 use Rattle.forms.specs.Forms.{first_rule_kind}
 use Rattle.text.specs.Lines.{rule_line, Tabled}
 use Rattle.text.specs.declared.lines.Last.{Last}
 use Rattle.graph.specs.Packed.{unpack_triple, unpack_arm, unpack_pattern_node, unpack_pattern_nodes, pattern_of}
 use Rattle.verdicts.specs.Verdicts.{verdict}
-use Rattle.verdicts.specs.Laws.Verdicts.{Agree, verdict-agrees, verdict_of}
-use Rattle.verdicts.specs.Laws.Edges.{edge-conforms, node-conforms}
+use Rattle.verdicts.proofs.Laws.Verdicts.{Agree, verdict-agrees, verdict_of}
+use Rattle.verdicts.proofs.Laws.Edges.{edge-conforms, node-conforms}
 use Rattle.pattern_lines.specs.PatternLines.{knows, pnode_checks, pedge_checks}
 use Rattle.action_lines.specs.ActionLines.{make_checks, arm_checks, put_checks, drop_checks, cut_checks, group_checks}
 use Rattle.rule_lines.specs.RuleLines.{line_checks, lines_above, placed}

@@ -15,27 +15,28 @@ use borrow.Author.Tests.{eqb-true, lt-ltb, ltb-true, le-leb, leb-true, leb-false
 use Rattle.lists.specs.Lists.{◌∈◌, any, ◌!◌}
 use Rattle.lists.specs.Order.{rising}
 use Rattle.lists.specs.Radix.{within}
-use Rattle.lists.specs.Laws.Lists.{both, one_of, any-member, any_append, in-append, in_map, same_truth}
-use Rattle.lists.specs.Laws.Count.{rising-count, within-cons}
-use Rattle.lists.specs.Laws.Order.{lexicographic}
-use Rattle.lists.specs.Laws.OneMore.{last-of-append}
+use Rattle.lists.proofs.Laws.Lists.{both, one_of, any-member, any_append, in-append, in_map, same_truth}
+use Rattle.lists.proofs.Laws.Count.{rising-count, within-cons}
+use Rattle.lists.proofs.Laws.Order.{lexicographic}
+use Rattle.lists.proofs.Laws.OneMore.{last-of-append}
 use Rattle.model.specs.Limits
 use Rattle.model.specs.Graph.{Scheme, row}
 use Rattle.model.specs.Files.{Line, rises, numbers_of, follows}
 use Rattle.model.specs.Files.RuleText.{RuleKey, op=, pnode=, pedge=, make=, arm=, put=, drop=, cut=, group=, rule_form, RuleLines, stand, has_code}
 use Rattle.model.specs.Files.RuleText.{rule_checks, rule_format}
 use Rattle.model.specs.Causes.{passes}
-use Rattle.model.specs.Laws.Lines.{LineInForm}
-use Rattle.model.specs.Laws.Passing.{Passing, meets-iff, passing-keeps, passing-in-order, numbers-append}
-use Rattle.model.specs.Laws.Keys.{later-not-yet}
-use Rattle.model.specs.Laws.RulePatterns.{regular, limits, rise}
-use Rattle.model.specs.Laws.RuleActions.{code_of, line-numbers, led-by}
+use Rattle.model.specs.InForm.{LineInForm}
+use Rattle.model.proofs.Laws.Passing.{Passing, meets-iff, passing-keeps, passing-in-order, numbers-append}
+use Rattle.model.proofs.Laws.Keys.{later-not-yet}
+use Rattle.model.proofs.Laws.RulePatterns.{regular, limits, rise}
+use Rattle.model.specs.InForm.{code_of}
+use Rattle.model.proofs.Laws.RuleActions.{line-numbers, led-by}
 use Rattle.forms.specs.Forms.{first_rule_kind, rule_key}
 use Rattle.text.specs.Lines.{rule_line, Tabled}
 use Rattle.forms.specs.Laws.Kinds.{rule-turn}
 use Rattle.text.specs.declared.lines.Last.{Last}
 use Rattle.graph.specs.Packed.{unpack_triple}
-use Rattle.verdicts.specs.Laws.InTurn.{none-later, rows-rise-with}
+use Rattle.verdicts.proofs.Laws.InTurn.{none-later, rows-rise-with}
 use Rattle.rules.specs.Laws.RuleRows.{fields, row_line, Rows, turn, HasRows, last_of, gathered}
 use Rattle.rules.specs.Laws.RuleContents.{has_code_lem, only-first, Ruled}
 

@@ -14,9 +14,9 @@ use Rattle.model.specs.Operations.{Action, Rule}
 use Rattle.model.specs.Refusals.{accepted, refused}
 use Rattle.model.specs.Files.{Line, full, follows}
 use Rattle.model.specs.Files.RuleText.{RuleKey, arm=, rule_form, RuleLines, rule_in, rule_format, read_rule}
-use Rattle.model.specs.Laws.Lines.{LineInForm}
-use Rattle.model.specs.Laws.Passing.{meets-iff}
-use Rattle.model.specs.Laws.RuleActions.{rule-is-sound}
+use Rattle.model.specs.InForm.{LineInForm}
+use Rattle.model.proofs.Laws.Passing.{meets-iff}
+use Rattle.model.proofs.Laws.RuleActions.{rule-is-sound}
 use Rattle.model.specs.declared.Refusal.{Refusal}
 use Rattle.model.specs.declared.Refusal.TheVariants.{Malformed}
 use Rattle.forms.specs.Forms.{first_rule_kind, rule_key}
@@ -32,8 +32,8 @@ use Rattle.verdicts.specs.NextLine.{LineAt, NoLineAt}
 use Rattle.verdicts.specs.declared.Verdict.{Verdict}
 use Rattle.verdicts.specs.declared.Verdict.TheVariants.{Passes, Fails}
 use Rattle.verdicts.specs.declared.Answer.TheVariants.{Accepted, Refused}
-use Rattle.verdicts.specs.Laws.Verdicts.{verdict_of, verdict-passes}
-use Rattle.verdicts.specs.Laws.LineByLine.{Upto, upto-none, upto_next, out-of-form-read, failing-line-read, whole-read}
+use Rattle.verdicts.proofs.Laws.Verdicts.{verdict_of, verdict-passes}
+use Rattle.verdicts.proofs.Laws.LineByLine.{Upto, upto-none, upto_next, out-of-form-read, failing-line-read, whole-read}
 use Rattle.rule_lines.specs.RuleLines.{line_checks, lines_above, placed, rule_verdict, FitsRule, HeldRule, RowFits}
 use Rattle.rules.specs.Rules.{Parts, parts_of}
 use Rattle.rules.specs.Rules.{parts_in, with, is_complete, read_as}

@@ -8,14 +8,14 @@ use Rattle.lists.specs.Radix.{product, unrank}
 use Rattle.model.specs.Graph.{row}
 use Rattle.model.specs.Files.{Line, numbers_of}
 use Rattle.model.specs.Files.RuleText.{RuleKey, op=, pnode=, pedge=, make=, arm=, put=, drop=, cut=, group=, rule_form, RuleLines}
-use Rattle.model.specs.Laws.Passing.{numbers-append}
+use Rattle.model.proofs.Laws.Passing.{numbers-append}
 use Rattle.model.specs.Files.RuleText.{rule_keys}
 use Rattle.forms.specs.Forms.{rule_kind, first_rule_kind, rule_key}
 use Rattle.text.specs.Lines.{rule_line, Tabled}
 use Rattle.forms.specs.Laws.Kinds.{rule-kind}
 use Rattle.text.specs.declared.lines.Line.{Line as PackedLine}
 use Rattle.graph.specs.Packed.{unpack_triple}
-use Rattle.graph.specs.Laws.Fields.{triple-fields}
+use Rattle.graph.proofs.Laws.Fields.{triple-fields}
 use Rattle.rules.specs.Rules.{Parts, with}
 
 -- # A line's numbers

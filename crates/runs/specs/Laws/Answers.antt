@@ -2,7 +2,7 @@
 use Rattle.std.specs.Prelude.{ℕ, ◌+◌, ◌<◌, ◌≤◌, ◌≡◌, refl, List, [], ◌∷◌, ◌++◌, length, get_or, take, drop, set}
 use Rattle.std.proofs.Common.{arith, add-one, ap, ◌∙◌, sym, subst, length-append, drop_of_length-le, drop-cons, length-take-le}
 use Rattle.lists.specs.Buffers.{WritesFrom}
-use Rattle.lists.specs.Laws.Buffers.{Unwritten, byte_fits, unwritten-byte, unwritten-from, written_from}
+use Rattle.lists.proofs.Laws.Buffers.{Unwritten, byte_fits, unwritten-byte, unwritten-from, written_from}
 use Rattle.model.specs.Refusals.{Outcome, accepted, refused, table_row}
 use Rattle.model.specs.Record.{Report, report_numbers}
 use Rattle.model.specs.Answers.{open_answer, apply_answer, undo_answer, close_answer}

@@ -8,14 +8,14 @@ use Rattle.std.proofs.Math.Seq.{drop-cons}
 use borrow.Author.Tests.{ltb-true, ltb-false, leb-true, le-ltb, lt-ltb, le-leb, lt-leb}
 use Rattle.lists.specs.Lists.{each}
 use Rattle.lists.specs.Buffers.{at_front, WritesFrom}
-use Rattle.lists.specs.Laws.Lists.{both, each_append}
+use Rattle.lists.proofs.Laws.Lists.{both, each_append}
 use Rattle.model.specs.Refusals.{Outcome}
 use Rattle.model.specs.Record.{Call, Open, Apply, Undo, Close, Report}
 use Rattle.session.specs.Sessions.{StoredSession, Stepped}
 use Rattle.session.specs.Chains.{Chain, ends, goes}
 use Rattle.session.specs.declared.Session.{Session}
-use Rattle.demands.specs.Demand3.{demand-3}
-use Rattle.demands.specs.Laws.Chains.{chain_runs}
+use Rattle.demands.proofs.Demand3.{demand-3}
+use Rattle.demands.proofs.Laws.Chains.{chain_runs}
 use Rattle.runs.specs.Handed.{kind_count, call_of, part, is_call, calls_from, calls_in, six_numbers, answer_room}
 use Rattle.runs.specs.Runs.{Performs, Runs, goes_on, Answered, Running}
 use Rattle.runs.specs.declared.Performed.{Performed}
@@ -248,6 +248,6 @@ module _ {s : Session} {kinds bounds texts before : List ℕ} {i from : ℕ} {cu
         numbers = h.written;
         count = sym (ap length run ∙ h.count);
         chain = chain;
-        demand = λ new. demand-3 new chain;
+        demand = λ new. demand-3 _ _ _ _ new chain;
         stored = h.stored;
       }

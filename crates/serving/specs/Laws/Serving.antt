@@ -13,7 +13,7 @@ use Rattle.std.proofs.Math.Pow.{pow-add}
 use Rattle.std.proofs.Math.Dec.{eqb, ltb}
 use borrow.Author.Tests.{eq-eqb, ne_eqb, ltb-true, ltb-false}
 use Rattle.lists.specs.Lists.{find, ◌!◌, Below}
-use Rattle.lists.specs.Laws.Places.{at_place}
+use Rattle.lists.proofs.Laws.Places.{at_place}
 use Rattle.model.specs.Limits
 use Rattle.keys.specs.Keys.{keys_rise, place_of}
 use Rattle.keys.specs.Laws.Keys.{place-above, place-below}

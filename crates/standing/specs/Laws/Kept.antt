@@ -5,7 +5,7 @@ use Rattle.std.proofs.Math.Path.{refl}
 use Rattle.std.proofs.lemmas.List.{map-append}
 use Rattle.std.proofs.Math.ListN.{length-set}
 use Rattle.lists.specs.Lists.{all}
-use Rattle.lists.specs.Laws.OneMore.{stored_last}
+use Rattle.lists.proofs.Laws.OneMore.{stored_last}
 use Rattle.model.specs.Limits
 use Rattle.text.specs.declared.lines.Line.{Line}
 use Rattle.graph.specs.Packed.{unpack_triple, unpack_node, unpack_declared, Snug, DeclaredWith}

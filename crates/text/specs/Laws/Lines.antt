@@ -9,9 +9,9 @@ use mathlib.Core.List.{List, [], ◌∷◌, get_last?}
 use borrow.Author.Tests.{eq-eqb, ne_eqb, le-ltb}
 use Rattle.lists.specs.Text.{pieces}
 use Rattle.lists.specs.Radix.{product, unrank}
-use Rattle.lists.specs.Laws.Lists.{less, equals, same_truth}
-use Rattle.lists.specs.Laws.Radix.{product-left, unrank-order}
-use Rattle.lists.specs.Laws.Text.{pieces-parted}
+use Rattle.lists.proofs.Laws.Lists.{less, equals, same_truth}
+use Rattle.lists.proofs.Laws.Radix.{product-left, unrank-order}
+use Rattle.lists.proofs.Laws.Text.{pieces-parted}
 use Rattle.model.specs.Files.{Line, Form, Format, rises, follows, line_of, lines_of}
 use Rattle.model.specs.Files.DrawingFile.{drawing_form}
 use Rattle.model.specs.Files.RuleText.{rule_form}

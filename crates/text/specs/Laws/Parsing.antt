@@ -14,16 +14,16 @@ use Rattle.lists.specs.Order.{same}
 use Rattle.lists.specs.Text.{pieces}
 use Rattle.lists.specs.Decimal.{value}
 use Rattle.lists.specs.Radix.{within, rank}
-use Rattle.lists.specs.Laws.Lists.{both, fails, finds-none, in_count}
-use Rattle.lists.specs.Laws.Order.{same-list}
-use Rattle.lists.specs.Laws.Maps.{find-map}
-use Rattle.lists.specs.Laws.Count.{rank_below}
-use Rattle.lists.specs.Laws.Radix.{unrank-rank}
-use Rattle.lists.specs.Laws.Text.{pieces-parted}
+use Rattle.lists.proofs.Laws.Lists.{both, fails, finds-none, in_count}
+use Rattle.lists.proofs.Laws.Order.{same-list}
+use Rattle.lists.proofs.Laws.Maps.{find-map}
+use Rattle.lists.proofs.Laws.Count.{rank_below}
+use Rattle.lists.proofs.Laws.Radix.{unrank-rank}
+use Rattle.lists.proofs.Laws.Text.{pieces-parted}
 use Rattle.model.specs.Files.{Line, Format, in_form, line_of}
 use Rattle.model.specs.Files.DrawingFile.{drawing_format}
 use Rattle.model.specs.Files.RuleText.{rule_format}
-use Rattle.model.specs.Laws.Lines.{line-spelled}
+use Rattle.model.proofs.Laws.Lines.{line-spelled}
 use Rattle.numerals.specs.Scan.{up_to}
 use Rattle.forms.specs.Forms.{first_rule_kind, kind_count, kind_at, key_number, packed_form, drawing_key, rule_key}
 use Rattle.text.specs.Lines.{row_numbers, Tabled, table_format, parsed, line_in, row_in}

@@ -11,8 +11,8 @@ use borrow.Author.Rules.{part_to_end}
 use Rattle.lists.specs.Text.{pieces}
 use Rattle.lists.specs.Decimal.{value, is_numeral}
 use Rattle.lists.specs.Radix.{product, rank}
-use Rattle.lists.specs.Laws.Lists.{both}
-use Rattle.lists.specs.Laws.Radix.{product-left}
+use Rattle.lists.proofs.Laws.Lists.{both}
+use Rattle.lists.proofs.Laws.Radix.{product-left}
 use Rattle.model.specs.Files.{in_form}
 use Rattle.numerals.specs.Scan.{up_to, numeral_below}
 use Rattle.forms.specs.Forms.{kind_count, kind_at, packed_form}
