@@ -6,7 +6,7 @@
  * to do exactly what the specification says, for every text and in every order of calls; what the caller owes in return stands below under
  * "Session" and "Pointers". docs/REFERENCE.md describes drawing files, rule texts and operations.
  *
- *     cc -Iinclude program.c target/staticlib/libhengvoat.a      (`rt staticlib hengvoat` proves the library and writes the archive)
+ *     cc -Iinclude program.c target/staticlib/libhengvoat.a      (`tools/build hengvoat` proves the library and writes the archive)
  *
  * Session. It is the caller's own memory, and all that the engine knows: the library has no state, allocates nothing, opens no file, and
  * calls nothing but memcpy, memmove and memset. A session is made by hengvoat_new and changed by the calls alone. Never write to it: of a
@@ -59,7 +59,7 @@ extern "C" {
 #define HENGVOAT_FILE_DECIDED 20106
 #define HENGVOAT_RULE_DECIDED 465
 
-/* Bytes of stack that must be free where a call is made. Measured: apply needs the most, about 230,000 bytes; this is twice as much.
+/* Bytes of stack that must be free where a call is made. Measured: apply needs the most, about 384,000 bytes; this is a third more.
  * c/stack.c measures again, and fails if it is no longer enough. The usual 8 MiB of a program's first thread are plenty; a thread
  * that is given a stack of its own needs this much on top of what the caller's functions and signal handlers use. */
 #define HENGVOAT_STACK 524288

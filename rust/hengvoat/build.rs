@@ -1,4 +1,4 @@
-//! Links libhengvoat.a, from the folder `HENGVOAT_LIB_DIR` or from where `rt staticlib` writes it.
+//! Links libhengvoat.a, from the folder `HENGVOAT_LIB_DIR` or from where `tools/build` writes it.
 
 use std::env;
 use std::path::{Path, PathBuf};
@@ -25,7 +25,7 @@ fn main() {
     if !archive.is_file() {
         fail(&format!(
             "there is no {}\n\
-             Run `rt staticlib hengvoat` at the root of the repository: it proves the library and writes {ARCHIVE}.\n\
+             Run `tools/build hengvoat` at the root of the repository: it proves the library and writes {ARCHIVE}.\n\
              If the archive stands elsewhere, set HENGVOAT_LIB_DIR to its folder.",
             archive.display()
         ));

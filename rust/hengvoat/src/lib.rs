@@ -89,7 +89,7 @@
 //!
 //! # Building
 //!
-//! `rt staticlib hengvoat`, at the root of the repository, proves the library and writes `target/staticlib/libhengvoat.a`, which this crate
+//! `tools/build hengvoat`, at the root of the repository, proves the library and writes `target/staticlib/libhengvoat.a`, which this crate
 //! links. If the archive stands elsewhere, set `HENGVOAT_LIB_DIR` to its folder. It is for x86-64 Unix.
 
 #![deny(missing_docs)]
@@ -133,7 +133,7 @@ pub const FILE_DECIDED: usize = 20_106;
 /// The first so many bytes of a rule text decide the answer to it: a longer text is refused as this part of it is.
 pub const RULE_DECIDED: usize = 465;
 
-/// How many bytes of stack must be free where a call is made, generously: about twice what was measured.
+/// How many bytes of stack must be free where a call is made, a third more than was measured.
 ///
 /// ```
 /// # use hengvoat::{Session, STACK};
