@@ -1,23 +1,21 @@
 -- New nodes for groups.
-use Rattle.std.specs.Prelude.{ℕ, ◌≤◌, ◌≡◌, cond, ◌||◌, List, map, length, eqb}
+use Rattle.std.specs.Prelude.{ℕ, ◌≡◌, cond, ◌||◌, List, map, length, eqb, Result, IfOk}
+use Rattle.std.specs.Bool.{⊤}
 use Rattle.lists.specs.Lists.{any}
-use Rattle.model.specs.Limits
 use Rattle.model.specs.Graph.{Instance}
 use Rattle.model.specs.Operations.{with_node, new_nodes, grouped, groups, group_arms}
 use Rattle.model.specs.Refusals.{Outcome, accepted}
-use Rattle.graph.specs.Packed.{unpack_arm}
-use Rattle.growth.specs.Growth.{judged, held, Growing}
-use Rattle.growth.specs.declared.Verdict.TheVariants.{Done}
+use Rattle.model.specs.declared.Refusal.{Refusal}
+use Rattle.graph.specs.Packed.{unpack_arm, unpack_instance}
+use Rattle.graph.specs.declared.instance.PackedInstance.{PackedInstance}
+use Rattle.growth.specs.Growth.{judged, Addable}
 use Rattle.edge_runs.specs.Runs.{has_targets}
-use Rattle.abstraction.specs.declared.Grown.{Grown}
 use Rattle.groups.specs.Groups.{arms_led_by}
 
--- what is grown to: the outcome, and room for what was made before a refusal
-pub record GrowsTo (o : Outcome Instance) (g : Grown) (nodes edges : List ℕ) : Type 0 where
-  pub outcome : judged g.verdict (held nodes g.order edges g.size) ≡ o
-  pub few_nodes : g.order ≤ Limits.nodes
-  pub few_edges : g.size ≤ Limits.edges
-  pub growing : g.verdict ≡ Done → Growing nodes g.order edges g.size
+-- what is grown to, if nothing is refused: the instance may grow on
+pub record GrowsTo (o : Outcome Instance) (v : Result ⊤ Refusal) (grown : PackedInstance) : Type 0 where
+  pub outcome : judged v (unpack_instance grown) ≡ o
+  pub addable : IfOk v (λ _. Addable grown)
 
 -- a new node with the arms, unless there are none or an old node has just their targets
 unfoldable pub added_with : (class : ℕ) → (arms old numbers : List ℕ) → (b : ℕ) → Instance → Outcome Instance

@@ -3,9 +3,9 @@
 
 ghost use Rattle.std.specs.Prelude.{◌≡◌, true, ◌&&◌, [], ◌<◌};
 ghost use Rattle.model.specs.Limits;
-ghost use Rattle.model.specs.Graph.{of_kind};
+ghost use Rattle.model.specs.Graph.{declares, of_kind, stands};
 ghost use Rattle.graph.specs.Packed.{unpack_triple, triples_rise, unpack_arm, unpack_declared, scheme_of, pattern_of};
-ghost use Rattle.verdicts.specs.Verdicts.{judged};
+ghost use Rattle.verdicts.specs.Verdicts.{judged, scheme_above, pattern_above};
 ghost use Rattle.action_lines.specs.ActionLines.{make_checks, arm_checks, put_checks, drop_checks, cut_checks, group_checks};
 
 use graph::declarations::Declarations;
@@ -16,140 +16,131 @@ use graph::scheme::permits;
 use keys::has_key;
 use model::Refusal;
 use pattern_lines::{class_at, edge_known};
-use verdicts::Verdict;
+use verdicts::above::Above;
 
-pub fn check_make(classes: Declarations, class: u64, line: u64) -> Verdict
+#[tactic(auto, using(verdicts::proofs::Laws::Tests::Judging), unfolding(crate::specs::ActionLines::make_checks))]
+pub fn check_make(classes: Declarations, class: u64, line: u64) -> Result<(), Refusal>
     requires { class < Limits.classes }
     ensures { result ≡ judged line (make_checks (scheme_of classes classes []) class) }
 {
     if !classes.declares(class) {
-        return Verdict::Fails(Refusal::Undeclared { line });
+        return Err(Refusal::Undeclared { line });
     }
     if !classes.of_kind(Declarations::OBJECT, class) {
-        return Verdict::Fails(Refusal::BadAction { line });
+        return Err(Refusal::BadAction { line });
     }
-    Verdict::Passes
+    Ok(())
 }
 
 // `class` is that of the make line above.
-pub fn check_arm(
-    names: Declarations,
-    permitted: &[u64],
-    nodes: &[u64],
-    class: u64,
-    arm: u64,
-    line: u64,
-) -> Verdict
-    requires permitted_value { triples_rise permitted.now ≡ true }
-    requires class_bound { (class < Limits.classes) × ((unpack_arm arm).name < Limits.names) }
-    ensures { result ≡ judged line (arm_checks (scheme_of names names permitted.now) (pattern_of nodes.now []) class (unpack_arm arm)) }
+#[tactic(auto, using(verdicts::proofs::Laws::Tests::Judging, pattern_lines::specs::Laws::PatternChecks::PatternTests), unfolding(crate::specs::ActionLines::arm_checks))]
+pub fn check_arm(above: &Above, class: u64, arm: u64, line: u64) -> Result<(), Refusal>
+    requires { (class < Limits.classes) × ((unpack_arm arm).name < Limits.names) }
+    ensures { result ≡ judged line (arm_checks (scheme_above above.now) (pattern_above above.now) class (unpack_arm arm)) }
 {
     let name = arm / ARM_NAME;
     let node = arm % ARM_NAME;
-    if !names.declares(name) {
-        return Verdict::Fails(Refusal::Undeclared { line });
+    if !above.names.declares(name) || above.nodes.len() as u64 <= node {
+        return Err(Refusal::Undeclared { line });
     }
-    if nodes.len() as u64 <= node {
-        return Verdict::Fails(Refusal::Undeclared { line });
+    let target = class_at(above.nodes, node as usize);
+    if !above.names.of_kind(Declarations::FUNCTIONAL, name)
+        || !permits(above.permitted, class, name, target)
+    {
+        return Err(Refusal::BadAction { line });
     }
-    if !names.of_kind(Declarations::FUNCTIONAL, name) {
-        return Verdict::Fails(Refusal::BadAction { line });
-    }
-    if !permits(permitted, class, name, class_at(nodes, node as usize)) {
-        return Verdict::Fails(Refusal::BadAction { line });
-    }
-    Verdict::Passes
+    Ok(())
 }
 
-pub fn check_put(
-    names: Declarations,
-    permitted: &[u64],
-    nodes: &[u64],
-    edge: u64,
-    line: u64,
-) -> Verdict
-    requires { triples_rise permitted.now ≡ true }
-    ensures { result ≡ judged line (put_checks (scheme_of names names permitted.now) (pattern_of nodes.now []) (unpack_triple edge)) }
+#[tactic(auto, using(verdicts::proofs::Laws::Tests::Judging, pattern_lines::specs::Laws::PatternChecks::PatternTests), unfolding(crate::specs::ActionLines::put_checks))]
+pub fn check_put(above: &Above, edge: u64, line: u64) -> Result<(), Refusal>
+    ensures { result ≡ judged line (put_checks (scheme_above above.now) (pattern_above above.now) (unpack_triple edge)) }
 {
-    if !edge_known(names, nodes, edge) {
-        return Verdict::Fails(Refusal::Undeclared { line });
+    if !edge_known(above.names, above.nodes, edge) {
+        return Err(Refusal::Undeclared { line });
     }
-    let source = class_at(nodes, (edge / TRIPLE_SOURCE) as usize);
-    let target = class_at(nodes, (edge % TRIPLE_NAME) as usize);
-    if !permits(permitted, source, edge / TRIPLE_NAME % NUMBERS, target) {
-        return Verdict::Fails(Refusal::BadAction { line });
+    let source = class_at(above.nodes, (edge / TRIPLE_SOURCE) as usize);
+    let target = class_at(above.nodes, (edge % TRIPLE_NAME) as usize);
+    let name = edge / TRIPLE_NAME % NUMBERS;
+    if !permits(above.permitted, source, name, target) {
+        return Err(Refusal::BadAction { line });
     }
-    Verdict::Passes
+    Ok(())
 }
 
-pub fn check_drop(nodes: &[u64], node: u64, line: u64) -> Verdict
+#[tactic(auto, using(verdicts::proofs::Laws::Tests::Judging, pattern_lines::specs::Laws::PatternChecks::PatternTests), unfolding(crate::specs::ActionLines::drop_checks))]
+pub fn check_drop(nodes: &[u64], node: u64, line: u64) -> Result<(), Refusal>
     ensures { result ≡ judged line (drop_checks (pattern_of nodes.now []) node) }
 {
     if nodes.len() as u64 <= node {
-        return Verdict::Fails(Refusal::Undeclared { line });
+        return Err(Refusal::Undeclared { line });
     }
-    Verdict::Passes
+    Ok(())
 }
 
-pub fn check_cut(names: Declarations, nodes: &[u64], edges: &[u64], edge: u64, line: u64) -> Verdict
+// Kept: names, nodes and edges one by one, since `Above` would ask callers for permitted triples that rise too.
+#[tactic(auto, using(verdicts::proofs::Laws::Tests::Judging, pattern_lines::specs::Laws::PatternChecks::PatternTests), unfolding(crate::specs::ActionLines::cut_checks))]
+pub fn check_cut(
+    names: Declarations,
+    nodes: &[u64],
+    edges: &[u64],
+    edge: u64,
+    line: u64,
+) -> Result<(), Refusal>
     requires { triples_rise edges.now ≡ true }
     ensures { result ≡ judged line (cut_checks (scheme_of names names []) (pattern_of nodes.now edges.now) (unpack_triple edge)) }
 {
     if !edge_known(names, nodes, edge) {
-        return Verdict::Fails(Refusal::Undeclared { line });
+        return Err(Refusal::Undeclared { line });
     }
     if !has_key(edges, edge) {
-        return Verdict::Fails(Refusal::BadAction { line });
+        return Err(Refusal::BadAction { line });
     }
-    Verdict::Passes
+    Ok(())
 }
 
-pub fn check_group(
-    classes: Declarations,
-    names: Declarations,
-    permitted: &[u64],
-    nodes: &[u64],
-    group: u64,
-    line: u64,
-) -> Verdict
-    requires { triples_rise permitted.now ≡ true }
-    ensures { result ≡ judged line (group_checks (scheme_of classes names permitted.now) (pattern_of nodes.now []) group) }
+#[tactic(auto, using(verdicts::proofs::Laws::Tests::Judging, pattern_lines::specs::Laws::PatternChecks::PatternTests), unfolding(crate::specs::ActionLines::group_checks))]
+pub fn check_group(above: &Above, group: u64, line: u64) -> Result<(), Refusal>
+    ensures { result ≡ judged line (group_checks (scheme_above above.now) (pattern_above above.now) group) }
 {
     let node = group / GROUP_NODE;
     let class = group / GROUP_CLASS % NUMBERS;
     let a = group / GROUP_A % NUMBERS;
     let b = group % NUMBERS;
-    if nodes.len() as u64 <= node {
-        return Verdict::Fails(Refusal::Undeclared { line });
+    if !group_known(above, node, class, a, b) {
+        return Err(Refusal::Undeclared { line });
     }
-    if !classes.declares(class) {
-        return Verdict::Fails(Refusal::Undeclared { line });
+    let target = class_at(above.nodes, node as usize);
+    if !group_suits(above, class, a, b) || !permits(above.permitted, class, b, target) {
+        return Err(Refusal::BadAction { line });
     }
-    if !names.declares(a) {
-        return Verdict::Fails(Refusal::Undeclared { line });
-    }
-    if !names.declares(b) {
-        return Verdict::Fails(Refusal::Undeclared { line });
-    }
-    if !group_suits(classes, names, class, a, b) {
-        return Verdict::Fails(Refusal::BadAction { line });
-    }
-    if !permits(permitted, class, b, class_at(nodes, node as usize)) {
-        return Verdict::Fails(Refusal::BadAction { line });
-    }
-    Verdict::Passes
+    Ok(())
+}
+
+// Whether the pattern node stands above, and the class and both names are declared.
+fn group_known(above: &Above, node: u64, class: u64, a: u64, b: u64) -> bool
+    requires { (class < Limits.classes) × (a < Limits.names) × (b < Limits.names) }
+    ensures { result
+        ≡ (stands (pattern_above above.now) node
+        && declares (unpack_declared above.now.classes) class
+        && declares (unpack_declared above.now.names) a
+        && declares (unpack_declared above.now.names) b) }
+{
+    node < above.nodes.len() as u64
+        && above.classes.declares(class)
+        && above.names.declares(a)
+        && above.names.declares(b)
 }
 
 // "object class K, multivalued names a and b"
-fn group_suits(classes: Declarations, names: Declarations, class: u64, a: u64, b: u64) -> bool
+fn group_suits(above: &Above, class: u64, a: u64, b: u64) -> bool
     requires { (class < Limits.classes) × (a < Limits.names) × (b < Limits.names) }
-    ensures { result ≡ (of_kind 0 (unpack_declared classes) class && of_kind 1 (unpack_declared names) a && of_kind 1 (unpack_declared names) b) }
+    ensures { result
+        ≡ (of_kind 0 (unpack_declared above.now.classes) class
+        && of_kind 1 (unpack_declared above.now.names) a
+        && of_kind 1 (unpack_declared above.now.names) b) }
 {
-    if !classes.of_kind(Declarations::OBJECT, class) {
-        return false;
-    }
-    if !names.of_kind(Declarations::MULTIVALUED, a) {
-        return false;
-    }
-    names.of_kind(Declarations::MULTIVALUED, b)
+    above.classes.of_kind(Declarations::OBJECT, class)
+        && above.names.of_kind(Declarations::MULTIVALUED, a)
+        && above.names.of_kind(Declarations::MULTIVALUED, b)
 }

@@ -1,17 +1,18 @@
 -- What the last of some applications of a rule to the drawing of a file reports, or the refusal of the file, of the rule text or of the application;
 -- and the drawing after it.
-use Rattle.std.specs.Prelude.{ℕ, zero, suc, ◌≡◌, List, []}
+use Rattle.std.specs.Prelude.{ℕ, zero, suc, ◌≡◌, List, [], Result, Ok, Err}
 use Rattle.model.specs.Graph.{Scheme, Instance}
 use Rattle.model.specs.Operations.{Rule, applied, counts}
 use Rattle.model.specs.Refusals.{Outcome, accepted, refused, ◌>>=◌, table_row}
 use Rattle.model.specs.Files.DrawingFile.{Contents, read_drawing}
 use Rattle.model.specs.Files.RuleText.{read_rule}
-use Rattle.model.specs.declared.ApplyAnswer.{ApplyAnswer}
-use Rattle.model.specs.declared.ApplyAnswer.TheVariants.{Applied, Refused}
 use Rattle.model.specs.declared.Counts.{Counts}
 use Rattle.model.specs.declared.Difference.{Difference}
+use Rattle.model.specs.declared.Refusal.{Refusal}
 use Rattle.graph.specs.Packed.{unpack_instance}
+use Rattle.graph.specs.declared.instance.PackedInstance.{PackedInstance}
 use Rattle.operations.specs.Applies.{afterwards}
+use Rattle.reports.specs.declared.Applied.{Applied}
 use Rattle.benchmark.specs.declared.applying.AppliedOver.{AppliedOver}
 use Rattle.benchmark.specs.declared.applying.Reply.{Reply}
 
@@ -38,10 +39,10 @@ abbrev pub replied : Outcome Counts → Reply
 replied (accepted c) = record { refusal = 0; returned = 0; counts = c }
 replied (refused r) = record { refusal = (table_row r).number; returned = (table_row r).returned; counts = no_counts }
 
--- an answer of the code, as an outcome
-abbrev pub counts_in : ApplyAnswer → Outcome Counts
-counts_in (Applied c) = accepted c
-counts_in (Refused r) = refused r
+-- the reply to an application, and the instance after it
+abbrev pub told : PackedInstance → Result Applied Refusal → AppliedOver
+told before (Ok a) = record { reply = replied (accepted a.counts); instance = a.instance }
+told before (Err r) = record { reply = replied (refused r); instance = before }
 
 -- the drawing after the last application, which is the drawing of the file if there is none; of a refused file, an empty one
 abbrev pub instance_over : (times : ℕ) → Scheme → Rule → Instance → Instance

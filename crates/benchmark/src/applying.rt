@@ -1,19 +1,19 @@
 // The application of a rule, for a program that times it.
 ghost use Rattle.std.specs.Prelude.{◌≡◌};
 ghost use Rattle.graph.specs.Packed.{unpack_scheme, unpack_instance, unpack_rule, StoredInstance, StoredRule};
-ghost use Rattle.model.specs.Refusals.{refused};
-ghost use Rattle.benchmark.specs.Applications.{no_counts, replied, counts_in, AppliesOver, AppliesFiles};
+ghost use Rattle.benchmark.specs.Applications.{told, AppliesOver, AppliesFiles};
 
 use graph::instance::PackedInstance;
 use graph::rule::PackedRule;
 use graph::scheme::PackedScheme;
-use model::{ApplyAnswer, Counts, Difference, Refusal};
+use model::{Counts, Difference, Refusal};
 use operations::apply;
 use reading::drawing::read_drawing;
+use reports::Applied;
 use rules::read_rule;
-use verdicts::Answer;
 
 // The refusal's number, 0 for none, and what is returned with it; what apply reports.
+// Kept: the program that times gets this struct through C, and no enum may cross the border.
 #[repr(C)]
 #[derive(Clone, Copy)]
 pub struct Reply {
@@ -30,36 +30,36 @@ pub struct AppliedOver {
     pub instance: PackedInstance,
 }
 
-fn no_counts() -> Counts
-    ensures { result ≡ no_counts }
-{
-    Counts {
-        matchings: 0,
-        added: Difference { nodes: 0, edges: 0 },
-        removed: Difference { nodes: 0, edges: 0 },
-    }
-}
+const NO_COUNTS: Counts = Counts {
+    matchings: 0,
+    added: Difference { nodes: 0, edges: 0 },
+    removed: Difference { nodes: 0, edges: 0 },
+};
 
-fn refusal_reply(r: Refusal) -> Reply
-    ensures { result ≡ replied (refused r) }
+// The reply to an application, or to a text that is refused, and the instance after it: a refusal leaves the one before.
+fn told(before: PackedInstance, applied: Result<Applied, Refusal>) -> AppliedOver
+    ensures { result ≡ told before applied }
 {
-    Reply {
-        refusal: table::number(r),
-        returned: table::returned(r),
-        counts: no_counts(),
-    }
-}
-
-fn reply_to(answer: ApplyAnswer) -> Reply
-    ensures { result ≡ replied (counts_in answer) }
-{
-    match answer {
-        ApplyAnswer::Refused(refusal) => refusal_reply(refusal),
-        ApplyAnswer::Applied(counts) => Reply {
-            refusal: 0,
-            returned: 0,
-            counts,
+    match applied {
+        Ok(Applied { counts, instance }) => AppliedOver {
+            reply: Reply {
+                refusal: 0,
+                returned: 0,
+                counts,
+            },
+            instance,
         },
+        Err(refusal) => {
+            let row = table::row(refusal);
+            AppliedOver {
+                reply: Reply {
+                    refusal: row.number,
+                    returned: row.returned,
+                    counts: NO_COUNTS,
+                },
+                instance: before,
+            }
+        }
     }
 }
 
@@ -74,24 +74,14 @@ fn apply_over(
     requires stored_rule { StoredRule (unpack_scheme scheme) rule }
     ensures { AppliesOver times (unpack_scheme scheme) (unpack_rule rule) (unpack_instance instance) result }
 {
-    let mut reply = Reply {
-        refusal: 0,
-        returned: 0,
-        counts: no_counts(),
-    };
-    let mut after = instance;
-    let mut i = 0;
-    while i < times {
-        let applied = apply(scheme, instance, rule);
-        let answer = applied.answer;
-        reply = reply_to(answer);
-        after = applied.instance;
-        i += 1;
+    let mut applied = Ok(Applied {
+        counts: NO_COUNTS,
+        instance,
+    });
+    for _i in 0..times {
+        applied = apply(scheme, instance, rule);
     }
-    AppliedOver {
-        reply,
-        instance: after,
-    }
+    told(instance, applied)
 }
 
 // Reads a drawing file and a rule text once, and applies the rule to the drawing `times` times.
@@ -99,26 +89,11 @@ fn apply_over(
 pub extern "C" fn apply_rule(file: &[u8], rule: &[u8], times: u64) -> AppliedOver
     ensures { AppliesFiles times file.now rule.now result }
 {
-    let drawing = read_drawing(file);
-    let scheme = drawing.scheme;
-    let instance = drawing.instance;
-    let opened = drawing.answer;
-    match opened {
-        Answer::Refused(refusal) => AppliedOver {
-            reply: refusal_reply(refusal),
-            instance: PackedInstance::new(),
+    match read_drawing(file) {
+        Err(refusal) => told(PackedInstance::new(), Err(refusal)),
+        Ok(drawing) => match read_rule(rule, drawing.scheme) {
+            Err(refusal) => told(drawing.instance, Err(refusal)),
+            Ok(read) => apply_over(drawing.scheme, drawing.instance, read, times),
         },
-        Answer::Accepted => {
-            let text = read_rule(rule, scheme);
-            let read = text.rule;
-            let accepted = text.answer;
-            match accepted {
-                Answer::Refused(refusal) => AppliedOver {
-                    reply: refusal_reply(refusal),
-                    instance,
-                },
-                Answer::Accepted => apply_over(scheme, instance, read, times),
-            }
-        }
     }
 }

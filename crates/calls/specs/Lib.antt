@@ -1,3 +1,3 @@
--- What the functions behind the calls leave, and laws.
+-- What the functions behind the calls accept, and laws.
 pub mod Within
 pub mod Laws

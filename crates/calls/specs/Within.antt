@@ -1,34 +1,27 @@
--- What the functions behind open and apply leave.
-use Rattle.std.specs.Prelude.{ℕ, ◌≡◌, true, List, [], ◌∷◌, length, take}
-use Rattle.model.specs.Limits
-use Rattle.model.specs.Refusals.{accepted}
-use Rattle.model.specs.Record.{opened, declared, Apply}
-use Rattle.model.specs.Answers.{open_answer, apply_answer}
-use Rattle.model.specs.Files.RuleText.{read_rule}
-use Rattle.graph.specs.Packed.{unpack_scheme, unpack_instance, unpack_history, unpack_rule}
-use Rattle.graph.specs.declared.instance.PackedInstance.{PackedInstance}
-use Rattle.graph.specs.declared.rule.PackedRule.{PackedRule}
-use Rattle.graph.specs.declared.scheme.PackedScheme.{PackedScheme}
+-- What the functions behind the calls accept, and what a call leaves of it.
+use Rattle.std.specs.Prelude.{◌≡◌, [], Result, Ok, Err, IfOk}
+use Rattle.std.specs.Bool.{⊤}
+use Rattle.model.specs.Answers.{outcome}
+use Rattle.model.specs.Record.{Call, Report, nothing, declared, accept}
+use Rattle.model.specs.declared.Opened.{Opened}
+use Rattle.model.specs.declared.Refusal.{Refusal}
 use Rattle.session.specs.declared.Session.{Session}
-use Rattle.calls.specs.declared.OpenLeft.{OpenLeft}
-use Rattle.calls.specs.declared.ApplyLeft.{ApplyLeft}
-use Rattle.session.specs.Sessions.{unpack_session, StoredSession, Stepped}
+use Rattle.session.specs.Sessions.{unpack_session, StoredSession}
+use Rattle.calls.specs.declared.Left.{Left}
 
--- the scheme and instance of an accepted file
-pub record OpenedWith (s : PackedScheme) (d : PackedInstance) (r : OpenLeft) : Type 0 where
-  pub answer : open_answer r.answer ≡ accepted (declared (length (unpack_scheme s).classes) (length (unpack_scheme s).names))
-  pub session : unpack_session r.session ≡ opened (unpack_scheme s) (unpack_instance d) []
-  pub stored : StoredSession r.session
+-- what is reported
+abbrev pub open_report : Opened → Report
+open_report o = declared o.classes o.names
 
--- a new instance, and the old one as the newest copy
-pub record ChangedTo (s : Session) (new : PackedInstance) (r : Session) : Type 0 where
-  pub opened : r.opened ≡ s.opened
-  pub scheme : r.scheme ≡ s.scheme
-  pub instance : r.instance ≡ new
-  pub history : unpack_history r.history ≡ take Limits.copies (unpack_instance s.instance ∷ unpack_history s.history)
-  pub stored : StoredSession r
+abbrev pub step_report : ⊤ → Report
+step_report _ = nothing
 
--- an accepted rule, of whatever text
-pub record AppliesRule (s : Session) (rule : PackedRule) (r : ApplyLeft) : Type 0 where
-  pub steps : (text : List ℕ) → s.opened ≡ true → read_rule (unpack_scheme s.scheme) text ≡ accepted (unpack_rule rule)
-      → Stepped (Apply text) s (apply_answer r.answer) [] r.session
+-- the record accepts or refuses the same, and what is accepted leaves a session that is stored as it should be
+pub record Accepts {A : Type 0} (report : A → Report) (call : Call) (s : Session) (r : Result (A × Session) Refusal) : Type 0 where
+  pub leaves : outcome (λ a. record { state = unpack_session a.1; answer = report a.0; buffer = [] }) r ≡ accept (unpack_session s) call
+  pub stored : IfOk r (λ a. StoredSession a.1)
+
+-- what a call leaves: what is accepted, or the session as it was
+abbrev pub settled : {A : Type 0} → Session → Result (A × Session) Refusal → Left A
+settled before (Ok a) = record { answer = Ok a.0; session = a.1 }
+settled before (Err x) = record { answer = Err x; session = before }

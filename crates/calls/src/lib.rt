@@ -1,201 +1,140 @@
 // The calls that change the session, by value: each takes it and gives it back beside the answer. Each is held to `Stepped`.
 #![tactic(auto)]
 
-ghost use Rattle.std.specs.Prelude.{[]};
-ghost use Rattle.model.specs.Record.{Open, Apply, Undo, Close};
-ghost use Rattle.model.specs.Answers.{open_answer, apply_answer, undo_answer, close_answer};
-ghost use Rattle.graph.specs.Packed.{unpack_scheme, StoredScheme, StoredInstance, StoredRule};
+ghost use Rattle.std.specs.Prelude.{◌≡◌, []};
+ghost use Rattle.model.specs.Record.{counted, Open, Apply, Undo, Close};
+ghost use Rattle.model.specs.Answers.{open_answer, apply_answer, step_answer};
 ghost use Rattle.session.specs.Sessions.{StoredSession, Stepped};
-ghost use Rattle.calls.specs.Within.{OpenedWith, ChangedTo, AppliesRule};
+ghost use Rattle.calls.specs.Within.{Accepts, open_report, step_report, settled};
 
 use graph::history::History;
-use graph::instance::PackedInstance;
-use graph::rule::PackedRule;
-use graph::scheme::PackedScheme;
-use history::{pop, push};
-use model::{ApplyAnswer, CloseAnswer, OpenAnswer, Refusal, UndoAnswer};
+use history::{Popped, pop, push};
+use model::{Counts, Opened, Refusal};
 use operations::apply;
-use reading::drawing::read_drawing;
+use reading::drawing::{Drawing, read_drawing};
+use reports::Applied;
 use rules::read_rule;
 use session::Session;
-use verdicts::Answer;
 
-// What each call leaves: the answer, and the session.
+// What a call leaves: the answer, and the session.
 #[derive(Clone, Copy)]
-pub struct OpenLeft {
-    pub answer: OpenAnswer,
+pub struct Left<A> {
+    pub answer: Result<A, Refusal>,
     pub session: Session,
 }
 
-#[derive(Clone, Copy)]
-pub struct ApplyLeft {
-    pub answer: ApplyAnswer,
-    pub session: Session,
-}
-
-#[derive(Clone, Copy)]
-pub struct UndoLeft {
-    pub answer: UndoAnswer,
-    pub session: Session,
-}
-
-#[derive(Clone, Copy)]
-pub struct CloseLeft {
-    pub answer: CloseAnswer,
-    pub session: Session,
+// "A refused call changes nothing." Of an accepted one comes what it reports, and the session after it.
+fn settle<A>(before: Session, accepted: Result<(A, Session), Refusal>) -> Left<A>
+    ensures { result ≡ settled before accepted }
+{
+    match accepted {
+        Ok((report, session)) => Left {
+            answer: Ok(report),
+            session,
+        },
+        Err(refusal) => Left {
+            answer: Err(refusal),
+            session: before,
+        },
+    }
 }
 
 // "Open, on an accepted file, sets scheme and drawing, with no copies."
-fn opened_with(scheme: PackedScheme, instance: PackedInstance) -> OpenLeft
-    requires stored_scheme { StoredScheme scheme }
-    requires stored_instance { StoredInstance (unpack_scheme scheme) instance }
-    ensures { OpenedWith scheme instance result }
+fn accept_open(session: Session, file: &[u8]) -> Result<(Opened, Session), Refusal>
+    requires { StoredSession session }
+    ensures { Accepts open_report (Open file.now) session result }
 {
-    let session = Session {
+    if session.opened {
+        return Err(Refusal::AlreadyOpen);
+    }
+    let Drawing { scheme, instance } = read_drawing(file)?;
+    let opened = Opened {
+        classes: scheme.classes.count(),
+        names: scheme.names.count(),
+    };
+    let after = Session {
         opened: true,
         scheme,
         instance,
         history: History::new(),
     };
-    OpenLeft {
-        answer: OpenAnswer::Opened {
-            classes: scheme.classes.count(),
-            names: scheme.names.count(),
-        },
-        session,
-    }
-}
-
-pub fn open_value(session: Session, file: &[u8]) -> OpenLeft
-    requires { StoredSession session }
-    ensures { Stepped (Open file.now) session (open_answer result.answer) [] result.session }
-{
-    if session.opened {
-        return OpenLeft {
-            answer: OpenAnswer::Refused(Refusal::AlreadyOpen),
-            session,
-        };
-    }
-    let read = read_drawing(file);
-    let scheme = read.scheme;
-    let instance = read.instance;
-    let answer = read.answer;
-    match answer {
-        Answer::Accepted => opened_with(scheme, instance),
-        Answer::Refused(refusal) => OpenLeft {
-            answer: OpenAnswer::Refused(refusal),
-            session,
-        },
-    }
+    Ok((opened, after))
 }
 
 // "Apply puts the old drawing at the head of the copies, drops a ninth, and sets the new drawing, even if equal."
-fn changed_to(session: Session, new: PackedInstance) -> Session
-    requires stored_session { StoredSession session }
-    requires stored_instance { StoredInstance (unpack_scheme session.scheme) new }
-    ensures { ChangedTo session new result }
+fn accept_apply(session: Session, text: &[u8]) -> Result<(Counts, Session), Refusal>
+    requires { StoredSession session }
+    ensures { Accepts counted (Apply text.now) session result }
 {
-    let scheme = session.scheme;
-    let history = push(session.history, session.instance);
-    Session {
-        opened: session.opened,
-        scheme,
-        instance: new,
+    if !session.opened {
+        return Err(Refusal::NotOpen);
+    }
+    let rule = read_rule(text, session.scheme)?;
+    let Applied { counts, instance } = apply(session.scheme, session.instance, rule)?;
+    let after = Session {
+        instance,
+        history: push(session.history, session.instance),
+        ..session
+    };
+    Ok((counts, after))
+}
+
+// "Undo takes the head copy off the list and sets it as drawing."
+fn accept_undo(session: Session) -> Result<((), Session), Refusal>
+    requires { StoredSession session }
+    ensures { Accepts step_report Undo session result }
+{
+    if !session.opened {
+        return Err(Refusal::NotOpen);
+    }
+    if session.history.depth == 0 {
+        return Err(Refusal::NoCopy);
+    }
+    let Popped { instance, history } = pop(session.history);
+    let after = Session {
+        instance,
         history,
-    }
+        ..session
+    };
+    Ok(((), after))
 }
 
-// An accepted rule, in an open session.
-fn apply_rule(session: Session, rule: PackedRule) -> ApplyLeft
-    requires stored_session { StoredSession session }
-    requires stored_rule { StoredRule (unpack_scheme session.scheme) rule }
-    ensures { AppliesRule session rule result }
+// "Close makes it shut."
+fn accept_close(session: Session) -> Result<((), Session), Refusal>
+    requires { StoredSession session }
+    ensures { Accepts step_report Close session result }
 {
-    let applied = apply(session.scheme, session.instance, rule);
-    let new = applied.instance;
-    let answer = applied.answer;
-    match answer {
-        ApplyAnswer::Applied(counts) => {
-            let changed = changed_to(session, new);
-            ApplyLeft {
-                answer: ApplyAnswer::Applied(counts),
-                session: changed,
-            }
-        }
-        ApplyAnswer::Refused(refusal) => ApplyLeft {
-            answer: ApplyAnswer::Refused(refusal),
-            session,
-        },
+    if session.opened {
+        Ok(((), Session::new()))
+    } else {
+        Err(Refusal::NotOpen)
     }
 }
 
-pub fn apply_value(session: Session, rule: &[u8]) -> ApplyLeft
+pub fn open_value(session: Session, file: &[u8]) -> Left<Opened>
+    requires { StoredSession session }
+    ensures { Stepped (Open file.now) session (open_answer result.answer) [] result.session }
+{
+    settle(session, accept_open(session, file))
+}
+
+pub fn apply_value(session: Session, rule: &[u8]) -> Left<Counts>
     requires { StoredSession session }
     ensures { Stepped (Apply rule.now) session (apply_answer result.answer) [] result.session }
 {
-    if !session.opened {
-        return ApplyLeft {
-            answer: ApplyAnswer::Refused(Refusal::NotOpen),
-            session,
-        };
-    }
-    let read = read_rule(rule, session.scheme);
-    let accepted = read.rule;
-    let answer = read.answer;
-    match answer {
-        Answer::Accepted => apply_rule(session, accepted),
-        Answer::Refused(refusal) => ApplyLeft {
-            answer: ApplyAnswer::Refused(refusal),
-            session,
-        },
-    }
+    settle(session, accept_apply(session, rule))
 }
 
-pub fn undo_value(session: Session) -> UndoLeft
+pub fn undo_value(session: Session) -> Left<()>
     requires { StoredSession session }
-    ensures { Stepped Undo session (undo_answer result.answer) [] result.session }
+    ensures { Stepped Undo session (step_answer result.answer) [] result.session }
 {
-    if !session.opened {
-        return UndoLeft {
-            answer: UndoAnswer::Refused(Refusal::NotOpen),
-            session,
-        };
-    }
-    let history = session.history;
-    if history.depth == 0 {
-        return UndoLeft {
-            answer: UndoAnswer::Refused(Refusal::NoCopy),
-            session,
-        };
-    }
-    let popped = pop(history);
-    let scheme = session.scheme;
-    let instance = popped.instance;
-    let left = popped.history;
-    let before = Session {
-        opened: session.opened,
-        scheme,
-        instance,
-        history: left,
-    };
-    UndoLeft {
-        answer: UndoAnswer::Undone,
-        session: before,
-    }
+    settle(session, accept_undo(session))
 }
 
-pub fn close_value(session: Session) -> CloseLeft
+pub fn close_value(session: Session) -> Left<()>
     requires { StoredSession session }
-    ensures { Stepped Close session (close_answer result.answer) [] result.session }
+    ensures { Stepped Close session (step_answer result.answer) [] result.session }
 {
-    if !session.opened {
-        return CloseLeft {
-            answer: CloseAnswer::Refused(Refusal::NotOpen),
-            session,
-        };
-    }
-    CloseLeft {
-        answer: CloseAnswer::Closed,
-        session: Session::new(),
-    }
+    settle(session, accept_close(session))
 }

@@ -30,15 +30,12 @@ fn show_pair(
     let drawing = load(rt, job_name, &mut job);
     let mut rule = rule_room();
     let action = load(rt, rule_name, &mut rule);
-    if !drawing.readable {
-        return Ok(());
-    }
-    if !action.readable {
-        return Ok(());
-    }
+    let (Some(drawing), Some(action)) = (drawing, action) else {
+        return Ok(())
+    };
     print_name(rt, job_name)?;
     print_name(rt, rule_name)?;
-    print_trial(rt, &job[..drawing.length], &rule[..action.length])
+    print_trial(rt, &job[..drawing], &rule[..action])
 }
 
 fn main(rt: HostRuntime) -> io::Result<()> {

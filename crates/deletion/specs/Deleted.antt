@@ -1,8 +1,7 @@
 -- What is left when keys that are noted go.
-use Rattle.std.specs.Prelude.{ℕ, ◌/◌, ◌%◌, ◌^◌, ◌≤◌, ◌≡◌, Bool, true, cond, not, ◌&&◌, ◌||◌, List, length, eqb, ltb}
+use Rattle.std.specs.Prelude.{ℕ, ◌/◌, ◌%◌, ◌^◌, ◌≡◌, Bool, not, ◌&&◌, ◌||◌, List, length, eqb, ltb}
 use Rattle.lists.specs.Lists.{keep, member, ◌!◌}
 use Rattle.model.specs.Graph.{Instance}
-use Rattle.keys.specs.Keys.{keys_rise}
 use Rattle.graph.specs.Packed.{bit, pack_triple, unpack_instance, Fits}
 use Rattle.graph.specs.declared.instance.PackedInstance.{PackedInstance}
 
@@ -19,17 +18,12 @@ pub record Marks (numbers marks : List ℕ) : Type 0 where
   pub room : length marks ≡ words
   pub same : (n : ℕ) → marked marks n ≡ member numbers n
 
--- whether a key goes: a node by its number (0), an edge by one of its ends (1), where numbers are marked; or a key itself
-unfoldable pub goes : (what : ℕ) → (gone : List ℕ) → (key : ℕ) → Bool
-goes what gone key =
-    cond (eqb what 0) (marked gone (key / 2 ^ 38))
-    (cond (eqb what 1) (marked gone (key / 2 ^ 22) || marked gone (key % 2 ^ 16))
-    (member gone key))
+-- a node goes by its number, an edge by the number of one of its ends
+abbrev pub node_stays : (marks : List ℕ) → (key : ℕ) → Bool
+node_stays marks key = not (marked marks (key / 2 ^ 38))
 
--- marks or rising keys, that tell what goes
-pub record Tells (what : ℕ) (gone : List ℕ) : Type 0 where
-  pub marks : what ≤ 1 → length gone ≡ words
-  pub keys : 2 ≤ what → keys_rise gone ≡ true
+abbrev pub edge_stays : (marks : List ℕ) → (key : ℕ) → Bool
+edge_stays marks key = not (marked marks (key / 2 ^ 22) || marked marks (key % 2 ^ 16))
 
 -- # What is left
 -- without the nodes that have these numbers, and every edge at them

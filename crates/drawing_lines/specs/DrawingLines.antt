@@ -1,17 +1,18 @@
 -- A line of a drawing file: what it must meet, told from what the lines above it hold.
-use Rattle.std.specs.Prelude.{ℕ, suc, ◌^◌, ◌<◌, true, cond, not, ◌&&◌, List, length, eqb}
+use Rattle.std.specs.Prelude.{ℕ, suc, ◌^◌, ◌<◌, ◌≡◌, true, cond, not, ◌&&◌, List, length, eqb, IfSome, Result}
+use Rattle.std.specs.Bool.{⊤}
 use Rattle.lists.specs.Lists.{any}
 use Rattle.model.specs.Graph.{Triple, Scheme, Node, Instance, declares, is_object, is_value, is_functional, stands, permits}
 use Rattle.model.specs.Files.{Checks, checks, full}
 use Rattle.model.specs.Files.DrawingFile.{DrawingKey, class=, name=, may=, node=, edge=, drawing_form, drawing_format}
 use Rattle.model.specs.InForm.{LineInForm}
-use Rattle.forms.specs.Forms.{first_rule_kind, drawing_key}
+use Rattle.forms.specs.Forms.{of_drawing, drawing_key}
 use Rattle.text.specs.Lines.{drawing_line, Tabled, follows_last}
+use Rattle.model.specs.declared.Refusal.{Refusal}
 use Rattle.text.specs.declared.lines.Line.{Line}
 use Rattle.text.specs.declared.lines.Last.{Last}
 use Rattle.graph.specs.Packed.{unpack_triple, unpack_node}
 use Rattle.verdicts.specs.Verdicts.{verdict, last_shares}
-use Rattle.verdicts.specs.declared.Verdict.{Verdict}
 
 unfoldable pub may_checks : Scheme → Triple → Checks
 may_checks s t =
@@ -45,15 +46,15 @@ lines_above s d may= = length s.permitted
 lines_above s d node= = length d.nodes
 lines_above s d edge= = length d.edges
 
-unfoldable pub drawing_verdict : Scheme → Instance → Last → Line → Verdict
+unfoldable pub drawing_verdict : Scheme → Instance → Last → Line → Result ⊤ Refusal
 drawing_verdict s d last l =
     let k = drawing_key l.kind in
-    verdict (suc last.lines) (follows_last last l) (full (drawing_form k).most (lines_above s d k)) (line_checks s d k l.row)
+    verdict (suc last.lines) (follows_last last.line l) (full (drawing_form k).most (lines_above s d k)) (line_checks s d k l.row)
 
 -- the line to be looked at is in form, and so is the last one above it
 pub record Coming (last : Last) (l : Line) : Type 0 where
-  pub above : Tabled last.line
+  pub above : IfSome last.line Tabled
   pub few : suc last.lines < 2 ^ 64
   pub tabled : Tabled l
-  pub kind : l.kind < first_rule_kind
+  pub kind : of_drawing l.kind ≡ true
   pub in-form : LineInForm drawing_format (drawing_line l)

@@ -1,6 +1,5 @@
 -- What edge addition makes of the edges when they are joined with the images.
-use Rattle.std.specs.Prelude.{ℕ, ◌/◌, ◌%◌, ◌^◌, ◌≡◌, Bool, true, cond, ◌&&◌, List, [], ◌∷◌, map, length, eqb, ltb}
-use Rattle.std.proofs.Math.Option.{Option, none, some}
+use Rattle.std.specs.Prelude.{ℕ, ◌/◌, ◌%◌, ◌^◌, ◌≡◌, Bool, true, cond, ◌&&◌, List, [], ◌∷◌, map, length, eqb, ltb, Option, None, Some}
 use Rattle.lists.specs.Lists.{◌∈◌, find}
 use Rattle.model.specs.Limits
 use Rattle.model.specs.Graph.{Scheme, Instance, of_kind, stands, torn}
@@ -16,9 +15,9 @@ tears names last key = eqb (last / 2 ^ 16) (key / 2 ^ 16) && of_kind 0 (unpack_d
 
 -- the source of the first key that does
 unfoldable pub first_torn : Declarations → List ℕ → Option ℕ
-first_torn names [] = none
-first_torn names (k ∷ []) = none
-first_torn names (k ∷ l ∷ ks) = let rest = first_torn names (l ∷ ks) in cond (tears names k l) (some (l / 2 ^ 22)) rest
+first_torn names [] = None
+first_torn names (k ∷ []) = None
+first_torn names (k ∷ l ∷ ks) = let rest = first_torn names (l ∷ ks) in cond (tears names k l) (Some (l / 2 ^ 22)) rest
 
 -- each of the keys starts at a node
 abbrev pub SourcesIn : Instance → List ℕ → Type 0

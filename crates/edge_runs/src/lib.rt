@@ -3,66 +3,120 @@
 #![tactic(auto)]
 
 ghost use Rattle.std.specs.Prelude.{◌≡◌, true, map, ◌*◌, ◌%◌, ◌^◌, ◌<◌, ◌≤◌, length};
-ghost use Rattle.lists.specs.Lists.{any, Below};
+ghost use Rattle.lists.specs.Lists.{any, Below, ◌!◌};
 ghost use Rattle.lists.specs.Order.{same};
 ghost use Rattle.keys.specs.Keys.{keys_rise, place_of};
-ghost use Rattle.edge_runs.specs.Runs.{targets_at, lowest, Starts, Lookup, has_targets};
+ghost use Rattle.edge_runs.specs.Runs.{run_of, targets_at, lowest, Starts, Lookup, has_targets};
 
 use graph::packing::{NODE_NUMBERS, NUMBERS, TRIPLE_NAME};
 use keys::place;
 
+// The runs of one name of some nodes, with the places where they begin among the rising edges.
+#[derive(Clone, Copy)]
+pub struct Runs<'e, 'n, 's> {
+    pub edges: &'e [u64],
+    pub numbers: &'n [u64],
+    pub name: u64,
+    pub starts: &'s [u64],
+    pub ghost lookup: { Lookup edges.now numbers.now name starts.now },
+}
+
 // For each of the nodes, where its run of the name begins among the edges.
-pub fn find_starts(edges: &[u64], numbers: &[u64], name: u64, starts: &mut [u64])
+fn find_starts(edges: &[u64], numbers: &[u64], name: u64, starts: &mut [u64])
     requires edges_value { keys_rise edges.now ≡ true }
     requires below { Below (2 ^ 16) numbers.now }
     requires name_bound { name < 2 ^ 6 }
     requires numbers_in_bounds { length numbers.now ≤ length starts.old }
     ensures { Starts edges.now numbers.now name starts.new }
 {
-    let mut i = 0;
-    while i < numbers.len() {
-        let run = numbers[i] * NUMBERS + name;
-        starts[i] = place(edges, run * TRIPLE_NAME) as u64;
-        i += 1;
+    for (i, number) in numbers.iter().enumerate() {
+        starts[i] = place(edges, (*number * NUMBERS + name) * TRIPLE_NAME) as u64;
     }
 }
 
 // Whether a run, which begins at `start`, has just these targets, each the lowest number of a key.
-pub fn targets_are(edges: &[u64], run: u64, start: u64, keys: &[u64]) -> bool
+fn targets_are(edges: &[u64], run: u64, start: u64, keys: &[u64]) -> bool
     requires edges_value { keys_rise edges.now ≡ true }
     requires run_bound { run < 2 ^ 22 }
     requires start_value { start ≡ place_of (run * 2 ^ 16) edges.now }
     ensures { result ≡ same (targets_at edges.now run) (map lowest keys.now) }
 {
-    let mut at = start as usize;
-    let mut i = 0;
-    while i < keys.len() {
-        if edges.len() <= at {
+    let mut rest = edges[start as usize..].iter();
+    for key in keys {
+        let Some(edge) = rest.next() else {
+            return false
+        };
+        if *edge != run * TRIPLE_NAME + *key % NODE_NUMBERS {
             return false;
         }
-        if edges[at] != run * TRIPLE_NAME + keys[i] % NODE_NUMBERS {
-            return false;
-        }
-        at += 1;
-        i += 1;
     }
-    if edges.len() <= at {
-        return true;
+    match rest.next() {
+        Some(edge) => *edge / TRIPLE_NAME != run,
+        None => true,
     }
-    edges[at] / TRIPLE_NAME != run
 }
 
-// Whether one of the nodes, whose runs of the name begin at `starts`, has just these targets.
-pub fn any_has(edges: &[u64], numbers: &[u64], name: u64, starts: &[u64], keys: &[u64]) -> bool
-    requires { Lookup edges.now numbers.now name starts.now }
-    ensures { result ≡ any (has_targets edges.now name keys.now) numbers.now }
-{
-    let mut i = 0;
-    while i < numbers.len() {
-        if targets_are(edges, numbers[i] * NUMBERS + name, starts[i], keys) {
-            return true;
+impl<'e, 'n, 's> Runs<'e, 'n, 's> {
+    pub fn new(
+        edges: &'e [u64],
+        numbers: &'n [u64],
+        name: u64,
+        starts: &'s mut [u64],
+    ) -> Runs<'e, 'n, 's>
+        requires edges_value { keys_rise edges.now ≡ true }
+        requires below { Below (2 ^ 16) numbers.now }
+        requires name_bound { name < 2 ^ 6 }
+        requires numbers_in_bounds { length numbers.now ≤ length starts.old }
+        ensures edges { result.edges.now ≡ edges.now }
+        ensures numbers { result.numbers.now ≡ numbers.now }
+        ensures name { result.name ≡ name }
+    {
+        find_starts(edges, numbers, name, starts);
+        Runs {
+            edges,
+            numbers,
+            name,
+            starts,
         }
-        i += 1;
     }
-    false
+
+    // The run of the node at `i`.
+    pub fn run(&self, i: usize) -> &'e [u64]
+        requires { i < length self.now.numbers.now }
+        ensures { map lowest result.now
+            ≡ targets_at self.now.edges.now (run_of self.now.name (self.now.numbers.now ! i)) }
+    {
+        let next = place(
+            self.edges,
+            (self.numbers[i] * NUMBERS + self.name + 1) * TRIPLE_NAME,
+        );
+        &self.edges[self.starts[i] as usize..next]
+    }
+
+    // Whether the run of the node at `i` has just these targets.
+    pub fn has(&self, i: usize, keys: &[u64]) -> bool
+        requires { i < length self.now.numbers.now }
+        ensures { result
+            ≡ has_targets self.now.edges.now self.now.name keys.now (self.now.numbers.now ! i) }
+    {
+        targets_are(
+            self.edges,
+            self.numbers[i] * NUMBERS + self.name,
+            self.starts[i],
+            keys,
+        )
+    }
+
+    // Whether the run of one of the nodes has.
+    pub fn any_has(&self, keys: &[u64]) -> bool
+        ensures { result
+            ≡ any (has_targets self.now.edges.now self.now.name keys.now) self.now.numbers.now }
+    {
+        for i in 0..self.numbers.len() {
+            if self.has(i, keys) {
+                return true;
+            }
+        }
+        false
+    }
 }

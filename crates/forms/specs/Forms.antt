@@ -1,12 +1,13 @@
 -- The table of forms: the forms of document 01's lines, and how a line's numbers are kept as one.
-use Rattle.std.specs.Prelude.{ℕ, ◌+◌, ◌-◌, ◌*◌, ◌^◌, cond, List, [], ◌∷◌, ◌++◌, map, length, get_or, take, drop, ltb}
-use Rattle.std.proofs.Math.Option.{Option, none, some}
+use Rattle.std.specs.Prelude.{ℕ, ◌+◌, ◌*◌, ◌^◌, Bool, true, false, cond, List, [], ◌∷◌, ◌++◌, length, take, drop, ltb, option_map}
 use Rattle.lists.specs.Radix.{product}
 use Rattle.model.specs.Files.{Form}
-use Rattle.model.specs.Files.DrawingFile.{DrawingKey, class=, name=, may=, node=, edge=, drawing_form, drawing_keys}
-use Rattle.model.specs.Files.RuleText.{RuleKey, op=, pnode=, pedge=, make=, arm=, put=, drop=, cut=, group=, rule_form, rule_keys}
+use Rattle.model.specs.Files.DrawingFile.{DrawingKey, class=, name=, may=, node=, edge=, drawing_form}
+use Rattle.model.specs.Files.RuleText.{RuleKey, op=, pnode=, pedge=, make=, arm=, put=, drop=, cut=, group=, rule_form}
 use Rattle.graph.specs.Packed.{triple_rooms, node_rooms, declared_rooms}
 use Rattle.forms.specs.declared.Form.{Form as PackedForm}
+use Rattle.forms.specs.declared.LineKind.{LineKind}
+use Rattle.forms.specs.declared.LineKind.TheVariants.{Class, Name, May, Node, Edge, Op, Pnode, Pedge, Make, Arm, Put, Drop, Cut, Group}
 
 -- a kind of line: its form, and how many values each of its numbers has room for in the line's row
 pub record Kind : Type 0 where
@@ -32,24 +33,75 @@ rule_kind drop= = record { form = rule_form drop=; rooms = 2 ^ 16 ∷ [] }
 rule_kind cut= = record { form = rule_form cut=; rooms = triple_rooms }
 rule_kind group= = record { form = rule_form group=; rooms = 2 ^ 16 ∷ 2 ^ 6 ∷ 2 ^ 6 ∷ 2 ^ 6 ∷ [] }
 
--- kinds are numbered: those of a drawing file from 0, then those of a rule text
-abbrev pub first_rule_kind : ℕ
-first_rule_kind = 5
+-- the kinds of line of a drawing file, and those of a rule text
+abbrev pub drawing_kinds : List LineKind
+drawing_kinds = Class ∷ Name ∷ May ∷ Node ∷ Edge ∷ []
 
-abbrev pub kind_count : ℕ
-kind_count = 14
+abbrev pub rule_kinds : List LineKind
+rule_kinds = Op ∷ Pnode ∷ Pedge ∷ Make ∷ Arm ∷ Put ∷ Drop ∷ Cut ∷ Group ∷ []
 
-abbrev pub drawing_key : ℕ → DrawingKey
-drawing_key kind = get_or drawing_keys kind class=
+abbrev pub of_drawing : LineKind → Bool
+of_drawing Class = true
+of_drawing Name = true
+of_drawing May = true
+of_drawing Node = true
+of_drawing Edge = true
+of_drawing _ = false
 
-abbrev pub rule_key : ℕ → RuleKey
-rule_key kind = get_or rule_keys (kind - first_rule_kind) op=
+-- a kind's place among all: those of a drawing file come first
+abbrev pub turn_of : LineKind → ℕ
+turn_of Class = 0
+turn_of Name = 1
+turn_of May = 2
+turn_of Node = 3
+turn_of Edge = 4
+turn_of Op = 5
+turn_of Pnode = 6
+turn_of Pedge = 7
+turn_of Make = 8
+turn_of Arm = 9
+turn_of Put = 10
+turn_of Drop = 11
+turn_of Cut = 12
+turn_of Group = 13
 
-unfoldable pub kinds : List Kind
-kinds = map drawing_kind drawing_keys ++ map rule_kind rule_keys
+-- the key of a kind of a drawing file
+abbrev pub drawing_key : LineKind → DrawingKey
+drawing_key Class = class=
+drawing_key Name = name=
+drawing_key May = may=
+drawing_key Node = node=
+drawing_key Edge = edge=
+drawing_key _ = class=
 
-unfoldable pub kind_at : ℕ → Kind
-kind_at n = get_or kinds n (drawing_kind class=)
+-- the key of a kind of a rule text
+abbrev pub rule_key : LineKind → RuleKey
+rule_key Op = op=
+rule_key Pnode = pnode=
+rule_key Pedge = pedge=
+rule_key Make = make=
+rule_key Arm = arm=
+rule_key Put = put=
+rule_key Drop = drop=
+rule_key Cut = cut=
+rule_key Group = group=
+rule_key _ = op=
+
+unfoldable pub kind_of : LineKind → Kind
+kind_of Class = drawing_kind class=
+kind_of Name = drawing_kind name=
+kind_of May = drawing_kind may=
+kind_of Node = drawing_kind node=
+kind_of Edge = drawing_kind edge=
+kind_of Op = rule_kind op=
+kind_of Pnode = rule_kind pnode=
+kind_of Pedge = rule_kind pedge=
+kind_of Make = rule_kind make=
+kind_of Arm = rule_kind arm=
+kind_of Put = rule_kind put=
+kind_of Drop = rule_kind drop=
+kind_of Cut = rule_kind cut=
+kind_of Group = rule_kind group=
 
 -- # A form as the table has it
 -- bytes as one number in base 256, after the digits of v
@@ -68,14 +120,9 @@ most_numbers = 4
 abbrev pub padded : List ℕ → List ℕ
 padded ns = take most_numbers (ns ++ (0 ∷ 0 ∷ 0 ∷ 0 ∷ []))
 
--- what leaves of a row the numbers by which it must rise: 0 where it need not
-abbrev pub divisor : Option ℕ → List ℕ → ℕ
-divisor none rooms = 0
-divisor (some n) rooms = product (drop n rooms)
-
-abbrev pub or_zero : Option ℕ → ℕ
-or_zero none = 0
-or_zero (some n) = n
+-- what leaves of a row the first n numbers, by which it must rise
+abbrev pub divisor : (rooms : List ℕ) → (n : ℕ) → ℕ
+divisor rooms n = product (drop n rooms)
 
 unfoldable pub packed_form : Kind → PackedForm
 unfolding key_number
@@ -86,6 +133,6 @@ packed_form k =
       numbers = length k.form.below;
       below = padded k.form.below;
       room = padded k.rooms;
-      by = divisor k.form.by k.rooms;
-      most = or_zero k.form.most;
+      by = option_map (divisor k.rooms) k.form.by;
+      most = k.form.most;
     }

@@ -1,20 +1,40 @@
 // The table of forms: of each kind of line its key, how many numbers it has and their bounds, its order, and how many lines there may be.
 #![tactic(auto)]
 
-ghost use Rattle.std.specs.Prelude.{◌≡◌, ◌<◌};
-ghost use Rattle.forms.specs.Forms.{kind_count, kind_at, packed_form, key_number};
+ghost use Rattle.std.specs.Prelude.{◌≡◌};
+ghost use Rattle.forms.specs.Forms.{kind_of, packed_form, key_number};
 
 use graph::instance::PackedInstance;
 use graph::packing::{
     ARM_NAME, GROUPS, KINDS, NODE_NUMBER, NODE_NUMBERS, NUMBERS, VALUE_ROOM, VALUES,
 };
 use graph::pattern::PackedPattern;
-use graph::rule::PackedAction;
+use graph::rule::{Operation, PackedAction};
 use graph::scheme::PackedScheme;
 
+// The kinds of line of a drawing file, in the order of their turns; then those of a rule text.
+#[derive(Clone, Copy, PartialEq, Eq, PartialOrd, Ord)]
+pub enum LineKind {
+    Class,
+    Name,
+    May,
+    Node,
+    Edge,
+    Op,
+    Pnode,
+    Pedge,
+    Make,
+    Arm,
+    Put,
+    Drop,
+    Cut,
+    Group,
+}
+
 // `key` is the key's bytes, `letters` in number, as one number after a 1, in base 256. A line's numbers are kept as one number, its row: `room`
-// is how many values a number has room for there. Lines of one kind rise by their rows divided by `by`; 0: in any order. `most` is 0 where
-// nothing limits them.
+// is how many values a number has room for there. Lines of one kind rise by their rows divided by `by`, or stand in any order. `most` is how many there
+// may be, where that is limited.
+// Kept: the key is the number that `key_of` promises of any bytes, and the arrays hold four: a form is one copied value, equal to its definition as a whole.
 #[derive(Clone, Copy)]
 pub struct Form {
     pub key: u64,
@@ -22,8 +42,8 @@ pub struct Form {
     pub numbers: usize,
     pub below: [u32; Form::NUMBERS],
     pub room: [u64; Form::NUMBERS],
-    pub by: u64,
-    pub most: usize,
+    pub by: Option<u64>,
+    pub most: Option<usize>,
 }
 
 impl Form {
@@ -31,37 +51,6 @@ impl Form {
     pub const NUMBERS: usize = 4;
 
     pub const KEY_BYTES: usize = 5;
-
-    // The kinds of line of a drawing file, in the order of their turns; then those of a rule text.
-    pub const CLASS: usize = 0;
-
-    pub const NAME: usize = 1;
-
-    pub const MAY: usize = 2;
-
-    pub const NODE: usize = 3;
-
-    pub const EDGE: usize = 4;
-
-    pub const OP: usize = 5;
-
-    pub const PNODE: usize = 6;
-
-    pub const PEDGE: usize = 7;
-
-    pub const MAKE: usize = 8;
-
-    pub const ARM: usize = 9;
-
-    pub const PUT: usize = 10;
-
-    pub const DROP: usize = 11;
-
-    pub const CUT: usize = 12;
-
-    pub const GROUP: usize = 13;
-
-    pub const KINDS: usize = 14;
 }
 
 // What a line's numbers stay below: a class's or a name's, a kind, a node's number, a value, a pattern node's place, a code.
@@ -75,7 +64,7 @@ const VALUE_BOUND: u32 = VALUES as u32;
 
 const PNODE_BOUND: u32 = PackedPattern::NODES as u32;
 
-const CODE_BOUND: u32 = PackedAction::CODES as u32;
+const CODE_BOUND: u32 = Operation::CODES as u32;
 
 // class=number,kind
 const CLASS_FORM: Form = Form {
@@ -84,8 +73,8 @@ const CLASS_FORM: Form = Form {
     numbers: 2,
     below: [NUMBER_BOUND, KIND_BOUND, 0, 0],
     room: [NUMBERS, KINDS, 0, 0],
-    by: KINDS,
-    most: 0,
+    by: Some(KINDS),
+    most: None,
 };
 
 // name=number,kind
@@ -95,8 +84,8 @@ const NAME_FORM: Form = Form {
     numbers: 2,
     below: [NUMBER_BOUND, KIND_BOUND, 0, 0],
     room: [NUMBERS, KINDS, 0, 0],
-    by: KINDS,
-    most: 0,
+    by: Some(KINDS),
+    most: None,
 };
 
 // may=class,name,class
@@ -106,8 +95,8 @@ const MAY_FORM: Form = Form {
     numbers: 3,
     below: [NUMBER_BOUND, NUMBER_BOUND, NUMBER_BOUND, 0],
     room: [NODE_NUMBERS, NUMBERS, NODE_NUMBERS, 0],
-    by: 1,
-    most: PackedScheme::PERMITTED,
+    by: Some(1),
+    most: Some(PackedScheme::PERMITTED),
 };
 
 // node=number,class,value
@@ -117,8 +106,8 @@ const NODE_FORM: Form = Form {
     numbers: 3,
     below: [NODE_BOUND, NUMBER_BOUND, VALUE_BOUND, 0],
     room: [NODE_NUMBERS, NUMBERS, VALUE_ROOM, 0],
-    by: NODE_NUMBER,
-    most: PackedInstance::NODES,
+    by: Some(NODE_NUMBER),
+    most: Some(PackedInstance::NODES),
 };
 
 // edge=source,name,target
@@ -128,8 +117,8 @@ const EDGE_FORM: Form = Form {
     numbers: 3,
     below: [NODE_BOUND, NUMBER_BOUND, NODE_BOUND, 0],
     room: [NODE_NUMBERS, NUMBERS, NODE_NUMBERS, 0],
-    by: 1,
-    most: PackedInstance::EDGES,
+    by: Some(1),
+    most: Some(PackedInstance::EDGES),
 };
 
 // op=code
@@ -139,8 +128,8 @@ const OP_FORM: Form = Form {
     numbers: 1,
     below: [CODE_BOUND, 0, 0, 0],
     room: [NODE_NUMBERS, 0, 0, 0],
-    by: NODE_NUMBERS,
-    most: 0,
+    by: Some(NODE_NUMBERS),
+    most: None,
 };
 
 // pnode=class,given,value
@@ -150,8 +139,8 @@ const PNODE_FORM: Form = Form {
     numbers: 3,
     below: [NUMBER_BOUND, KIND_BOUND, VALUE_BOUND, 0],
     room: [NUMBERS, KINDS, VALUE_ROOM, 0],
-    by: 0,
-    most: PackedPattern::NODES,
+    by: None,
+    most: Some(PackedPattern::NODES),
 };
 
 // pedge=node,name,node
@@ -161,8 +150,8 @@ const PEDGE_FORM: Form = Form {
     numbers: 3,
     below: [PNODE_BOUND, NUMBER_BOUND, PNODE_BOUND, 0],
     room: [NODE_NUMBERS, NUMBERS, NODE_NUMBERS, 0],
-    by: 1,
-    most: PackedPattern::EDGES,
+    by: Some(1),
+    most: Some(PackedPattern::EDGES),
 };
 
 // make=class
@@ -172,8 +161,8 @@ const MAKE_FORM: Form = Form {
     numbers: 1,
     below: [NUMBER_BOUND, 0, 0, 0],
     room: [NUMBERS, 0, 0, 0],
-    by: NUMBERS,
-    most: 0,
+    by: Some(NUMBERS),
+    most: None,
 };
 
 // arm=name,node
@@ -183,8 +172,8 @@ const ARM_FORM: Form = Form {
     numbers: 2,
     below: [NUMBER_BOUND, PNODE_BOUND, 0, 0],
     room: [NUMBERS, NODE_NUMBERS, 0, 0],
-    by: ARM_NAME,
-    most: PackedAction::PARTS,
+    by: Some(ARM_NAME),
+    most: Some(PackedAction::PARTS),
 };
 
 // put=node,name,node
@@ -194,8 +183,8 @@ const PUT_FORM: Form = Form {
     numbers: 3,
     below: [PNODE_BOUND, NUMBER_BOUND, PNODE_BOUND, 0],
     room: [NODE_NUMBERS, NUMBERS, NODE_NUMBERS, 0],
-    by: 1,
-    most: PackedAction::PARTS,
+    by: Some(1),
+    most: Some(PackedAction::PARTS),
 };
 
 // drop=node
@@ -205,8 +194,8 @@ const DROP_FORM: Form = Form {
     numbers: 1,
     below: [PNODE_BOUND, 0, 0, 0],
     room: [NODE_NUMBERS, 0, 0, 0],
-    by: NODE_NUMBERS,
-    most: 0,
+    by: Some(NODE_NUMBERS),
+    most: None,
 };
 
 // cut=node,name,node
@@ -216,8 +205,8 @@ const CUT_FORM: Form = Form {
     numbers: 3,
     below: [PNODE_BOUND, NUMBER_BOUND, PNODE_BOUND, 0],
     room: [NODE_NUMBERS, NUMBERS, NODE_NUMBERS, 0],
-    by: 1,
-    most: PackedAction::PARTS,
+    by: Some(1),
+    most: Some(PackedAction::PARTS),
 };
 
 // group=p,K,a,b
@@ -227,29 +216,51 @@ const GROUP_FORM: Form = Form {
     numbers: 4,
     below: [PNODE_BOUND, NUMBER_BOUND, NUMBER_BOUND, NUMBER_BOUND],
     room: [NODE_NUMBERS, NUMBERS, NUMBERS, NUMBERS],
-    by: GROUPS,
-    most: 0,
+    by: Some(GROUPS),
+    most: None,
 };
 
-pub fn form_at(kind: usize) -> Form
-    requires { kind < kind_count }
-    ensures { result ≡ packed_form (kind_at kind) }
-{
-    match kind {
-        Form::CLASS => CLASS_FORM,
-        Form::NAME => NAME_FORM,
-        Form::MAY => MAY_FORM,
-        Form::NODE => NODE_FORM,
-        Form::EDGE => EDGE_FORM,
-        Form::OP => OP_FORM,
-        Form::PNODE => PNODE_FORM,
-        Form::PEDGE => PEDGE_FORM,
-        Form::MAKE => MAKE_FORM,
-        Form::ARM => ARM_FORM,
-        Form::PUT => PUT_FORM,
-        Form::DROP => DROP_FORM,
-        Form::CUT => CUT_FORM,
-        _ => GROUP_FORM,
+impl LineKind {
+    pub const DRAWING: [LineKind; 5] = [
+        LineKind::Class,
+        LineKind::Name,
+        LineKind::May,
+        LineKind::Node,
+        LineKind::Edge,
+    ];
+
+    pub const RULE: [LineKind; 9] = [
+        LineKind::Op,
+        LineKind::Pnode,
+        LineKind::Pedge,
+        LineKind::Make,
+        LineKind::Arm,
+        LineKind::Put,
+        LineKind::Drop,
+        LineKind::Cut,
+        LineKind::Group,
+    ];
+
+    #[tactic(auto, unfolding(crate::specs::Forms::kind_of, crate::specs::Forms::key_number, crate::specs::Forms::packed_form))]
+    pub fn form(self) -> Form
+        ensures { result ≡ packed_form (kind_of self) }
+    {
+        match self {
+            LineKind::Class => CLASS_FORM,
+            LineKind::Name => NAME_FORM,
+            LineKind::May => MAY_FORM,
+            LineKind::Node => NODE_FORM,
+            LineKind::Edge => EDGE_FORM,
+            LineKind::Op => OP_FORM,
+            LineKind::Pnode => PNODE_FORM,
+            LineKind::Pedge => PEDGE_FORM,
+            LineKind::Make => MAKE_FORM,
+            LineKind::Arm => ARM_FORM,
+            LineKind::Put => PUT_FORM,
+            LineKind::Drop => DROP_FORM,
+            LineKind::Cut => CUT_FORM,
+            LineKind::Group => GROUP_FORM,
+        }
     }
 }
 
@@ -257,6 +268,7 @@ pub fn form_at(kind: usize) -> Form
 pub const BYTES: u64 = 256;
 
 // A key's bytes as one number; 0 where they are more than any key has.
+// Kept: 0 in place of None, which no form's key is: the number of any bytes is defined, and the call can't fail.
 pub fn key_of(s: &[u8]) -> u64
     ensures { result ≡ key_number s.now }
 {
@@ -264,10 +276,8 @@ pub fn key_of(s: &[u8]) -> u64
         return 0;
     }
     let mut key: u64 = 1;
-    let mut i = 0;
-    while i < s.len() {
-        key = key * BYTES + s[i] as u64;
-        i += 1;
+    for byte in s {
+        key = key * BYTES + *byte as u64;
     }
     key
 }

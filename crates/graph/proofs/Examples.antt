@@ -1,6 +1,5 @@
 -- What stored keys mean, on keys of the drawing J and at the largest numbers.
-use Rattle.std.specs.Prelude.{◌+◌, ◌*◌, ◌-◌, ◌^◌, ◌≡◌, refl, [], ◌∷◌}
-use Rattle.std.proofs.Math.Option.{none, some}
+use Rattle.std.specs.Prelude.{◌+◌, ◌*◌, ◌-◌, ◌^◌, ◌≡◌, refl, [], ◌∷◌, None, Some}
 use Rattle.graph.specs.Packed.{unpack_triple, unpack_node, unpack_pattern_nodes, unpack_declared}
 
 pub record Examples : Type 0 where
@@ -13,7 +12,7 @@ pub record Examples : Type 0 where
   -- pnode=0,0,0 and pnode=1,1,0: no value, and the value 0
   pub pattern-nodes :
       unpack_pattern_nodes 0 (0 ∷ (1 * 2 ^ 33 + 2 ^ 32) ∷ [])
-      ≡ record { number = 0; class = 0; value = none } ∷ record { number = 1; class = 1; value = some 0 } ∷ []
+      ≡ record { number = 0; class = 0; value = None } ∷ record { number = 1; class = 1; value = Some 0 } ∷ []
   -- class=0,0 class=1,1, and class=63,1 alone
   pub classes : unpack_declared record { declared = 3; second = 2 } ≡ record { number = 0; kind = 0 } ∷ record { number = 1; kind = 1 } ∷ []
   pub last-class : unpack_declared record { declared = 2 ^ 63; second = 2 ^ 63 } ≡ record { number = 63; kind = 1 } ∷ []

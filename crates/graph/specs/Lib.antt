@@ -1,2 +1,3 @@
 -- What stored values mean, examples of it, and laws.
 pub mod Packed
+pub mod Operations

@@ -1,7 +1,6 @@
 -- What stored values mean: the scheme, instance, pattern, rule and copies that a packed value stands for. Every reading is total, so that no key
 -- has to be well formed to mean something.
-use Rattle.std.specs.Prelude.{ℕ, suc, ◌+◌, ◌*◌, ◌/◌, ◌%◌, ◌^◌, ◌<◌, ◌≤◌, ◌≡◌, Bool, true, cond, List, [], ◌∷◌, ◌++◌, map, length, get_or, take, eqb, ltb}
-use Rattle.std.proofs.Math.Option.{Option, none, some}
+use Rattle.std.specs.Prelude.{ℕ, suc, ◌+◌, ◌*◌, ◌/◌, ◌%◌, ◌^◌, ◌<◌, ◌≤◌, ◌≡◌, Bool, true, cond, List, [], ◌∷◌, ◌++◌, map, length, take, eqb, ltb, Option, None, Some}
 use Rattle.lists.specs.Lists.{all, keep, count_from}
 use Rattle.lists.specs.Order.{rising}
 use Rattle.model.specs.Limits
@@ -12,8 +11,8 @@ use Rattle.graph.specs.declared.declarations.Declarations.{Declarations}
 use Rattle.graph.specs.declared.scheme.PackedScheme.{PackedScheme}
 use Rattle.graph.specs.declared.instance.PackedInstance.{PackedInstance}
 use Rattle.graph.specs.declared.pattern.PackedPattern.{PackedPattern}
-use Rattle.graph.specs.declared.instance.Found.{Found}
-use Rattle.graph.specs.declared.instance.Found.TheVariants.{At, Nothing}
+use Rattle.graph.specs.declared.rule.Operation.{Operation}
+use Rattle.graph.specs.declared.rule.Operation.TheVariants.{PatternOnly, NodeAddition, EdgeAddition, NodeDeletion, EdgeDeletion, Abstraction}
 use Rattle.graph.specs.declared.rule.PackedAction.{PackedAction}
 use Rattle.graph.specs.declared.rule.PackedRule.{PackedRule}
 use Rattle.graph.specs.declared.history.History.{History}
@@ -45,7 +44,7 @@ unpack_node k = record { number = k / 2 ^ 38; class = k / 2 ^ 32 % 2 ^ 6; value 
 
 -- class (6 bits), whether a value is given (1), value (32); numbered by its place, from i on
 abbrev pub unpack_pattern_node : ℕ → ℕ → Node (Option ℕ)
-unpack_pattern_node i k = record { number = i; class = k / 2 ^ 33 % 2 ^ 6; value = cond (eqb (k / 2 ^ 32 % 2) 1) (some (k % 2 ^ 32)) none }
+unpack_pattern_node i k = record { number = i; class = k / 2 ^ 33 % 2 ^ 6; value = cond (eqb (k / 2 ^ 32 % 2) 1) (Some (k % 2 ^ 32)) None }
 
 abbrev pub unpack_pattern_nodes : ℕ → List ℕ → List (Node (Option ℕ))
 unpack_pattern_nodes i [] = []
@@ -104,37 +103,22 @@ group_a k = k / 2 ^ 6 % 2 ^ 6
 abbrev pub group_b : ℕ → ℕ
 group_b k = k % 2 ^ 6
 
--- by the code
+abbrev pub action_of : Operation → (head : ℕ) → (parts : List ℕ) → Action
+action_of PatternOnly head parts = pattern_only
+action_of NodeAddition head parts = add_node head (map unpack_arm parts)
+action_of EdgeAddition head parts = add_edges (map unpack_triple parts)
+action_of NodeDeletion head parts = delete_node head
+action_of EdgeDeletion head parts = delete_edges (map unpack_triple parts)
+action_of Abstraction head parts = abstract (group_node head) (group_class head) (group_a head) (group_b head)
+
 unfoldable pub unpack_action : PackedAction → Action
-unpack_action a =
-    let head = a.head in
-    let parts = take a.count a.parts in
-    get_or
-    (pattern_only
-    ∷ add_node head (map unpack_arm parts)
-    ∷ add_edges (map unpack_triple parts)
-    ∷ delete_node head
-    ∷ delete_edges (map unpack_triple parts)
-    ∷ abstract (group_node head) (group_class head) (group_a head) (group_b head)
-    ∷ [])
-    a.code
-    pattern_only
+unpack_action a = action_of a.operation a.head (take a.count a.parts)
 
 unfoldable pub unpack_rule : PackedRule → Rule
 unpack_rule r = record { pattern = unpack_pattern r.pattern; action = unpack_action r.action }
 
 unfoldable pub unpack_history : History → List Instance
 unpack_history h = map unpack_instance (take h.depth h.copies)
-
--- the node that a search found
-abbrev pub found_node : Found → Option (Node ℕ)
-found_node (At k) = some (unpack_node k)
-found_node Nothing = none
-
--- or the number
-abbrev pub found_number : Found → Option ℕ
-found_number (At n) = some n
-found_number Nothing = none
 
 abbrev pub triple : ℕ → ℕ → ℕ → Triple
 triple source name target = record { source = source; name = name; target = target }
@@ -202,7 +186,7 @@ pub record FreshPattern (p : PackedPattern) : Type 0 where
   pub edges_room : length p.edges ≡ Limits.pattern_edges
 
 pub record FreshAction (a : PackedAction) : Type 0 where
-  pub code : a.code ≡ 0
+  pub operation : a.operation ≡ PatternOnly
   pub head : a.head ≡ 0
   pub none : a.count ≡ 0
   pub room : length a.parts ≡ Limits.puts

@@ -18,6 +18,7 @@ pub struct Declarations {
 
 impl Declarations {
     // Kinds of classes, and kinds of names.
+    // Kept: a kind is the number that the line of a file holds, and the bit that stores it; an enum would be made of it and unmade at each use.
     pub const OBJECT: u64 = 0;
 
     pub const VALUE: u64 = 1;
@@ -46,11 +47,7 @@ impl Declarations {
         requires { (n < Limits.classes) × (kind < Limits.kinds) }
         ensures { result ≡ of_kind kind (unpack_declared self) n }
     {
-        if (self.declared >> n) % KINDS == 1 {
-            (self.second >> n) % KINDS == kind
-        } else {
-            false
-        }
+        self.declares(n) && (self.second >> n) % KINDS == kind
     }
 
     // A number above all that are declared, with its kind.
@@ -72,11 +69,8 @@ impl Declarations {
         ensures { Front rows.new result (declared_rows self) }
     {
         let mut count = 0;
-        let mut next = 0;
-        while next < NUMBERS {
-            let n = next;
-            next += 1;
-            if (self.declared >> n) % KINDS == 1 {
+        for n in 0..NUMBERS {
+            if self.declares(n) {
                 rows[count] = n * KINDS + (self.second >> n) % KINDS;
                 count += 1;
             }

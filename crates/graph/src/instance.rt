@@ -1,13 +1,15 @@
 // The instance, document 01's drawing, as it is stored.
-ghost use Rattle.std.specs.Prelude.{◌≡◌, true, [], ◌∷◌, map, ◌<◌, ◌^◌, eqb};
+ghost use Rattle.std.specs.Prelude.{◌≡◌, true, [], ◌∷◌, map, ◌<◌, ◌^◌, eqb, option_map};
 ghost use Rattle.lists.specs.Lists.{find};
 ghost use Rattle.lists.specs.Order.{rising};
-ghost use Rattle.graph.specs.Packed.{FreshInstance, unpack_node, found_node};
+ghost use Rattle.graph.specs.Packed.{FreshInstance, unpack_node};
 
 use crate::packing::NODE_NUMBER;
 use keys::place_dense;
 
 // A graph's order is its number of nodes, its size the number of its edges.
+// Kept: the arrays with their counts lie in the caller's memory, as C declares them; and a pattern's nodes are other keys, so that one type for both
+// graphs would say less.
 #[repr(C)]
 #[derive(Clone, Copy)]
 pub struct PackedInstance {
@@ -34,24 +36,18 @@ impl PackedInstance {
     }
 }
 
-#[derive(Clone, Copy)]
-pub enum Found {
-    At(u64),
-    Nothing,
-}
-
 // The key of the node that has the number: at once where numbers have no gap, else by halving.
-pub fn node_at(nodes: &[u64], number: u64) -> Found
+pub fn node_at(nodes: &[u64], number: u64) -> Option<u64>
     requires nodes_value { rising (map (λ n. n.number ∷ []) (map unpack_node nodes.now)) ≡ true }
     requires number_bound { number < 2 ^ 16 }
-    ensures { found_node result ≡ find (λ n. eqb n.number number) (map unpack_node nodes.now) }
+    ensures { option_map unpack_node result ≡ find (λ n. eqb n.number number) (map unpack_node nodes.now) }
 {
     let at = place_dense(nodes, number * NODE_NUMBER, NODE_NUMBER);
     if at < nodes.len() {
         let node = nodes[at];
         if node / NODE_NUMBER == number {
-            return Found::At(node);
+            return Some(node);
         }
     }
-    Found::Nothing
+    None
 }

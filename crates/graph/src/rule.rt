@@ -1,13 +1,52 @@
 // The rule as it is stored: a pattern, and an action.
+ghost use Rattle.graph.specs.Operations.{Decodes};
 ghost use Rattle.graph.specs.Packed.{FreshAction, FreshRule};
 
 use crate::pattern::PackedPattern;
+
+// What an action does.
+#[derive(Clone, Copy, PartialEq, Eq)]
+pub enum Operation {
+    PatternOnly,
+    NodeAddition,
+    EdgeAddition,
+    NodeDeletion,
+    EdgeDeletion,
+    Abstraction,
+}
+
+impl Operation {
+    // How many there are: a code is below this.
+    pub const CODES: u64 = 6;
+}
+
+// A number that is no operation's code.
+#[derive(Clone, Copy, PartialEq, Eq)]
+pub struct UnknownOperation(pub u64);
+
+impl TryFrom<u64> for Operation {
+    type Error = UnknownOperation;
+
+    ghost try_from_gives = { Decodes };
+
+    fn try_from(code: u64) -> Result<Self, UnknownOperation> {
+        match code {
+            0 => Ok(Operation::PatternOnly),
+            1 => Ok(Operation::NodeAddition),
+            2 => Ok(Operation::EdgeAddition),
+            3 => Ok(Operation::NodeDeletion),
+            4 => Ok(Operation::EdgeDeletion),
+            5 => Ok(Operation::Abstraction),
+            _ => Err(UnknownOperation(code)),
+        }
+    }
+}
 
 // `head` is the row of a make, drop or group line, `parts` are those of arm, put or cut lines.
 #[repr(C)]
 #[derive(Clone, Copy)]
 pub struct PackedAction {
-    pub code: u64,
+    pub operation: Operation,
     pub head: u64,
     pub parts: [u64; PackedAction::PARTS],
     pub count: usize,
@@ -16,26 +55,11 @@ pub struct PackedAction {
 impl PackedAction {
     pub const PARTS: usize = 4;
 
-    // The codes of the operations, and how many there are.
-    pub const PATTERN_ONLY: u64 = 0;
-
-    pub const NODE_ADDITION: u64 = 1;
-
-    pub const EDGE_ADDITION: u64 = 2;
-
-    pub const NODE_DELETION: u64 = 3;
-
-    pub const EDGE_DELETION: u64 = 4;
-
-    pub const ABSTRACTION: u64 = 5;
-
-    pub const CODES: u64 = 6;
-
     pub fn new() -> PackedAction
         ensures { FreshAction result }
     {
         PackedAction {
-            code: 0,
+            operation: Operation::PatternOnly,
             head: 0,
             parts: [0; PackedAction::PARTS],
             count: 0,

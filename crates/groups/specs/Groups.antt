@@ -1,21 +1,12 @@
 -- Groups of images, as arms to their members.
-use Rattle.std.specs.Prelude.{ℕ, ◌+◌, ◌*◌, ◌/◌, ◌%◌, ◌^◌, cond, List, [], map, take, drop, eqb}
-use Rattle.lists.specs.Lists.{any, keep, ◌!◌}
+use Rattle.std.specs.Prelude.{ℕ, ◌+◌, ◌*◌, ◌/◌, ◌%◌, ◌^◌, cond, List, [], map, eqb}
+use Rattle.lists.specs.Lists.{keep, ◌!◌}
 use Rattle.lists.specs.Order.{same}
-use Rattle.edge_runs.specs.Runs.{run_of, targets_at, has_targets}
+use Rattle.edge_runs.specs.Runs.{run_of, targets_at}
 
 -- the numbers of the nodes of a class
 unfoldable pub numbers_of : (class : ℕ) → (nodes : List ℕ) → List ℕ
 numbers_of class nodes = map (λ n. n / 2 ^ 38) (keep (λ n. eqb (n / 2 ^ 32 % 2 ^ 6) class) nodes)
-
--- arms of the name b to the images whose targets by a are just the given ones
-unfoldable pub arms_alike : (edges : List ℕ) → (a : ℕ) → (keys : List ℕ) → (b : ℕ) → (images : List ℕ) → List ℕ
-arms_alike edges a keys b images = map (λ i. b * 2 ^ 16 + i) (keep (has_targets edges a keys) images)
-
--- but none where an image before the one at i has them
-unfoldable pub arms_unless_before : (edges : List ℕ) → (a : ℕ) → (keys : List ℕ) → (b : ℕ) → (images : List ℕ) → (i : ℕ) → List ℕ
-arms_unless_before edges a keys b images i =
-    cond (any (has_targets edges a keys) (take i images)) [] (arms_alike edges a keys b (drop i images))
 
 -- the images that have the same targets by a as the image i; arms to them if i is the smallest, else none
 abbrev pub alike : (edges : List ℕ) → (a : ℕ) → (images : List ℕ) → (i : ℕ) → List ℕ

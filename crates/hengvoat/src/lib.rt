@@ -4,16 +4,16 @@
 
 ghost use Rattle.std.specs.Prelude.{[]};
 ghost use Rattle.model.specs.Record.{Open, Apply, Undo, Close, First, After, Save};
-ghost use Rattle.model.specs.Answers.{open_answer, apply_answer, undo_answer, close_answer, save_answer};
+ghost use Rattle.model.specs.Answers.{open_answer, apply_answer, step_answer, save_answer};
 ghost use Rattle.matcher.specs.Matchers.{given};
 ghost use Rattle.session.specs.Sessions.{StoredSession, NewSession};
-ghost use Rattle.results.specs.Results.{open_result, apply_result, undo_result, close_result, matching_result, save_result};
+ghost use Rattle.results.specs.Results.{open_result, apply_result, step_result, matching_result, save_result};
 ghost use Rattle.hengvoat.specs.Exports.{Exports};
 
 use engine::{after, apply, close, first, open, save, undo};
 use results::{
-    ApplyResult, MatchingResult, OpenResult, SaveResult, StepResult, apply_result, close_result,
-    matching_result, open_result, save_result, undo_result,
+    ApplyResult, MatchingResult, OpenResult, SaveResult, StepResult, apply_result, matching_result,
+    open_result, save_result, step_result,
 };
 use session::Session;
 
@@ -43,17 +43,17 @@ pub extern "C" fn hengvoat_apply(session: &mut Session, rule: &[u8]) -> ApplyRes
 #[unsafe(no_mangle)]
 pub extern "C" fn hengvoat_undo(session: &mut Session) -> StepResult
     requires { StoredSession session.old }
-    ensures { Exports undo_answer undo_result Undo session.old result [] session.new }
+    ensures { Exports step_answer step_result Undo session.old result [] session.new }
 {
-    undo_result(undo(session))
+    step_result(undo(session))
 }
 
 #[unsafe(no_mangle)]
 pub extern "C" fn hengvoat_close(session: &mut Session) -> StepResult
     requires { StoredSession session.old }
-    ensures { Exports close_answer close_result Close session.old result [] session.new }
+    ensures { Exports step_answer step_result Close session.old result [] session.new }
 {
-    close_result(close(session))
+    step_result(close(session))
 }
 
 // The rest only read the session.

@@ -10,33 +10,17 @@ pub fn place(keys: &[u64], key: u64) -> usize
     requires { keys_rise keys.now ≡ true }
     ensures { result ≡ place_of key keys.now }
 {
-    let mut low = 0;
-    let mut high = keys.len();
-    while low < high {
-        let middle = low + (high - low) / 2;
-        if keys[middle] < key {
-            low = middle + 1;
-        } else {
-            high = middle;
-        }
-    }
-    low
+    keys.partition_point(|k| *k < key)
 }
 
 // Where the key stands if the keys, in units of `unit`, follow each other without a gap.
 fn guess(keys: &[u64], key: u64, unit: u64) -> usize
     requires { 0 < unit }
 {
-    if keys.len() == 0 {
+    let Some(first) = keys.first() else {
         return 0;
-    }
-    let first = keys[0] / unit;
-    let own = key / unit;
-    if first <= own {
-        (own - first) as usize
-    } else {
-        0
-    }
+    };
+    (key / unit).saturating_sub(*first / unit) as usize
 }
 
 // The same as `place`, which is asked only if the key does not stand at `at`.
@@ -44,17 +28,11 @@ fn place_near(keys: &[u64], key: u64, at: usize) -> usize
     requires { keys_rise keys.now ≡ true }
     ensures { result ≡ place_of key keys.now }
 {
-    if at < keys.len() {
-        if key <= keys[at] {
-            if at == 0 {
-                return 0;
-            }
-            if keys[at - 1] < key {
-                return at;
-            }
-        }
+    if at < keys.len() && key <= keys[at] && (at == 0 || keys[at - 1] < key) {
+        at
+    } else {
+        place(keys, key)
     }
-    place(keys, key)
 }
 
 // The same as `place`, in one step where the keys follow each other without a gap.
@@ -71,11 +49,7 @@ pub fn has_key(keys: &[u64], key: u64) -> bool
     ensures { result ≡ member keys.now key }
 {
     let at = place(keys, key);
-    if at < keys.len() {
-        keys[at] == key
-    } else {
-        false
-    }
+    at < keys.len() && keys[at] == key
 }
 
 // Whether some key is the same as `key` in what is left when both are divided by `range`. It looks at each: no order serves here.
@@ -83,17 +57,11 @@ pub fn shares(keys: &[u64], key: u64, range: u64) -> bool
     requires { 0 < range }
     ensures { result ≡ any (λ k. eqb (k % range) (key % range)) keys.now }
 {
-    let mut i = 0;
-    while i < keys.len() {
-        if keys[i] % range == key % range {
-            return true;
-        }
-        i += 1;
-    }
-    false
+    keys.iter().any(|k| *k % range == key % range)
 }
 
 // The first `count` keys with `key` among them, once; how many they are then.
+#[tactic(auto, using(crate::specs::Laws::Keys::place_front))]
 pub fn insert(keys: &mut [u64], count: usize, key: u64) -> usize
     requires count_in_bounds { count < length keys.old }
     requires keys_value { keys_rise (take count keys.old) ≡ true }
@@ -103,16 +71,13 @@ pub fn insert(keys: &mut [u64], count: usize, key: u64) -> usize
         return count;
     }
     let at = place(&keys[..count], key);
-    let mut i = count;
-    while at < i {
-        keys[i] = keys[i - 1];
-        i -= 1;
-    }
+    keys.copy_within(at..count, at + 1);
     keys[at] = key;
     count + 1
 }
 
 // The first `count` keys without `key`; how many they are then.
+#[tactic(auto, using(crate::specs::Laws::Keys::place_front))]
 pub fn remove(keys: &mut [u64], count: usize, key: u64) -> usize
     requires count_in_bounds { count ≤ length keys.old }
     requires keys_value { keys_rise (take count keys.old) ≡ true }
@@ -121,10 +86,7 @@ pub fn remove(keys: &mut [u64], count: usize, key: u64) -> usize
     if !has_key(&keys[..count], key) {
         return count;
     }
-    let mut i = place(&keys[..count], key);
-    while i + 1 < count {
-        keys[i] = keys[i + 1];
-        i += 1;
-    }
+    let at = place(&keys[..count], key);
+    keys.copy_within(at + 1..count, at);
     count - 1
 }

@@ -1,6 +1,6 @@
 -- Tests on lists, and lists made from lists.
-use Rattle.std.specs.Prelude.{ℕ, zero, suc, ◌<◌, Bool, true, false, cond, ◌&&◌, ◌||◌, get_or, eqb}
-use Rattle.std.proofs.Math.Option.{Option, none, some}
+use Rattle.std.specs.Prelude.{ℕ, zero, suc, ◌<◌, Bool, ◌&&◌, get_or, eqb, Option, None, Some}
+pub use Rattle.std.specs.List.{list_any as any, list_all as all, filter as keep, find}
 use mathlib.Core.List.{List, [], ◌∷◌, ◌++◌, map, Memᴰ}
 
 -- x is a member of xs
@@ -9,24 +9,11 @@ abbrev pub ◌∈◌ : {A : Type 0} → A → List A → Type 0
 x ∈ xs = Memᴰ x xs
 
 module _ {A : Type 0} where
-  -- some member passes; every member passes
-  abbrev pub any : (A → Bool) → List A → Bool
-  any p [] = false
-  any p (x ∷ xs) = p x || any p xs
-
-  abbrev pub all : (A → Bool) → List A → Bool
-  all p [] = true
-  all p (x ∷ xs) = p x && all p xs
-
-  -- the members that pass, in their order
-  abbrev pub keep : (A → Bool) → List A → List A
-  keep p [] = []
-  keep p (x ∷ xs) = let rest = keep p xs in cond (p x) (x ∷ rest) rest
-
-  -- the first member that passes
-  abbrev pub find : (A → Bool) → List A → Option A
-  find p [] = none
-  find p (x ∷ xs) = let rest = find p xs in cond (p x) (some x) rest
+  -- the last member
+  abbrev pub last_of : List A → Option A
+  last_of [] = None
+  last_of (x ∷ []) = Some x
+  last_of (x ∷ y ∷ ys) = last_of (y ∷ ys)
 
 module _ {A B : Type 0} where
   -- what each member makes, in the members' order

@@ -1,6 +1,5 @@
 -- Lists of numbers: when two are the same, and their order by the first difference.
-use Rattle.std.specs.Prelude.{ℕ, Bool, true, false, ◌&&◌, ◌||◌, ◌≡◌, ◌⊎◌, List, [], ◌∷◌, eqb, ltb}
-use Rattle.std.proofs.Math.Option.{Option, none, some}
+use Rattle.std.specs.Prelude.{ℕ, Bool, true, false, ◌&&◌, ◌||◌, ◌≡◌, ◌⊎◌, List, [], ◌∷◌, eqb, ltb, Option, None, Some}
 use Rattle.lists.specs.Lists.{all}
 
 abbrev pub same : List ℕ → List ℕ → Bool
@@ -23,5 +22,5 @@ rising (x ∷ xs) = all (before x) xs && rising xs
 
 -- of members that f puts in order: x is one of the kind, and all others stand after it; or there is none
 abbrev pub Smallest : {A : Type 0} → (f : A → List ℕ) → (A → Type 0) → Option A → Type 0
-Smallest f P none = (y : _) → P y → ⊥
-Smallest f P (some x) = P x × ((y : _) → P y → (y ≡ x) ⊎ (before (f x) (f y) ≡ true))
+Smallest f P None = (y : _) → P y → ⊥
+Smallest f P (Some x) = P x × ((y : _) → P y → (y ≡ x) ⊎ (before (f x) (f y) ≡ true))

@@ -5,19 +5,18 @@
 ghost use Rattle.graph.specs.Packed.{unpack_scheme, StoredScheme, StoredInstance};
 ghost use Rattle.matcher.specs.Matchers.{Stored};
 
-use console::{print_first, print_numbers};
+use console::print_first;
 use files::{argument, load};
 use graph::instance::PackedInstance;
 use graph::pattern::PackedPattern;
 use graph::scheme::PackedScheme;
-use matcher::listing::{Matched, after, first, visit_all};
-use model::{MatchingAnswer, Refusal};
-use notes::{TOGETHER, count, no_notes};
-use reading::drawing::read_drawing;
+use matcher::listing::{Matching, after, first, visit_all};
+use model::Refusal;
+use notes::{Notes, Noting};
+use reading::drawing::{Drawing, read_drawing};
 use rules::read_rule;
 use std::io;
 use std::rt::{Env, Files};
-use verdicts::Answer;
 
 // The most bytes that a name has.
 const NAME: usize = 64;
@@ -28,28 +27,18 @@ const LISTED: usize = 100;
 // The first so many bytes of a text decide how it is read.
 const ENOUGH: usize = 20106;
 
-fn print_refused(rt: &impl Print, r: Refusal) -> io::Result<()> {
-    print_numbers(rt, b" refused=", &[table::number(r), table::returned(r)])
+fn print_refused(rt: &impl Print, refusal: Refusal) -> io::Result<()> {
+    print!(rt; " refused={}", table::row(refusal))
 }
 
-// Prints what is given; whether it is a matching.
-fn print_given(rt: &impl Print, given: Matched) -> io::Result<bool> {
-    let numbers = given.numbers;
-    let answer = given.answer;
-    match answer {
-        MatchingAnswer::Found { length } => {
-            print_first(rt, b" (", &numbers, length)?;
-            rt.write_all(b")")?;
-            Ok(true)
+fn print_given(rt: &impl Print, given: Result<Option<Matching>, Refusal>) -> io::Result<()> {
+    match given {
+        Ok(Some(matching)) => {
+            print_first(rt, b" (", &matching.numbers, matching.length)?;
+            rt.write_all(b")")
         }
-        MatchingAnswer::Nothing => {
-            rt.write_all(b" none")?;
-            Ok(false)
-        }
-        MatchingAnswer::Refused(refusal) => {
-            print_refused(rt, refusal)?;
-            Ok(false)
-        }
+        Ok(None) => rt.write_all(b" none"),
+        Err(refusal) => print_refused(rt, refusal),
     }
 }
 
@@ -60,18 +49,12 @@ fn print_listing(
 ) -> io::Result<()>
     requires { Stored instance pattern }
 {
-    let levels = pattern.order;
-    let given = first(instance, pattern);
-    let mut numbers = given.numbers;
-    let mut more = print_given(rt, given)?;
-    let mut left = LISTED;
-    while 0 < left {
-        left -= 1;
-        if more {
-            let next = after(instance, pattern, &numbers[..levels]);
-            numbers = next.numbers;
-            more = print_given(rt, next)?;
-        }
+    let mut given = Ok(first(instance, pattern));
+    print_given(rt, given)?;
+    for _ in 0..LISTED {
+        let Ok(Some(matching)) = given else { break };
+        given = after(instance, pattern, &matching.numbers[..pattern.order]);
+        print_given(rt, given)?;
     }
     Ok(())
 }
@@ -80,16 +63,13 @@ fn print_listing(
 fn print_visits(rt: &impl Print, instance: PackedInstance, pattern: PackedPattern) -> io::Result<()>
     requires { Stored instance pattern }
 {
-    let mut none = no_notes();
-    let visits = visit_all(instance, pattern, &[], &mut none);
-    print_numbers(rt, b" visits=", &[visits])?;
-    print_numbers(rt, b" marks=", &[count(&none) as u64])?;
-    let mut q = 0;
-    while q < pattern.order as u64 {
-        let mut images = no_notes();
-        visit_all(instance, pattern, &[TOGETHER, q], &mut images);
-        print_numbers(rt, b",", &[count(&images) as u64])?;
-        q += 1;
+    let mut none = Notes::new();
+    let visits = visit_all(instance, pattern, Noting::Nothing, &mut none);
+    print!(rt; " visits={visits} marks={}", none.count())?;
+    for q in 0..pattern.order as u64 {
+        let mut images = Notes::new();
+        visit_all(instance, pattern, Noting::Node(q), &mut images);
+        print!(rt; ",{}", images.count())?;
     }
     Ok(())
 }
@@ -102,11 +82,9 @@ fn print_after(
 ) -> io::Result<()>
     requires { Stored instance pattern }
 {
-    let levels = pattern.order;
     let list = [number; PackedPattern::NODES + 1];
-    print_numbers(rt, b" after=", &[number])?;
-    print_given(rt, after(instance, pattern, &list[0..levels]))?;
-    Ok(())
+    print!(rt; " after={number}")?;
+    print_given(rt, after(instance, pattern, &list[..pattern.order]))
 }
 
 fn show_pattern(rt: &impl Print, instance: PackedInstance, pattern: PackedPattern) -> io::Result<()>
@@ -114,10 +92,9 @@ fn show_pattern(rt: &impl Print, instance: PackedInstance, pattern: PackedPatter
 {
     print_listing(rt, instance, pattern)?;
     print_visits(rt, instance, pattern)?;
-    print_after(rt, instance, pattern, 0)?;
-    print_after(rt, instance, pattern, 4)?;
-    print_after(rt, instance, pattern, 5)?;
-    print_after(rt, instance, pattern, 18446744073709551615)?;
+    for number in [0, 4, 5, u64::MAX] {
+        print_after(rt, instance, pattern, number)?;
+    }
     print_given(rt, after(instance, pattern, &[0; PackedPattern::NODES + 1]))?;
     rt.write_all(b"\n")
 }
@@ -132,19 +109,13 @@ fn show_rule(
     requires stored_instance { StoredInstance (unpack_scheme scheme) instance }
 {
     let mut text = [0u8; ENOUGH];
-    let loaded = load(rt, name, &mut text);
-    if !loaded.readable {
-        return Ok(());
-    }
-    let length = loaded.length;
+    let Some(length) = load(rt, name, &mut text) else {
+        return Ok(())
+    };
     rt.write_all(name)?;
-    let read = read_rule(&text[0..length], scheme);
-    let rule = read.rule;
-    let pattern = rule.pattern;
-    let answer = read.answer;
-    match answer {
-        Answer::Accepted => show_pattern(rt, instance, pattern),
-        Answer::Refused(refusal) => {
+    match read_rule(&text[..length], scheme) {
+        Ok(rule) => show_pattern(rt, instance, rule.pattern),
+        Err(refusal) => {
             print_refused(rt, refusal)?;
             rt.write_all(b"\n")
         }
@@ -171,20 +142,14 @@ fn show_rules(
 
 fn main(rt: HostRuntime) -> io::Result<()> {
     let mut name = [0u8; NAME];
-    let length = argument(&rt, 1, &mut name).unwrap_or(0);
+    let named = argument(&rt, 1, &mut name).unwrap_or(0);
     let mut text = [0u8; ENOUGH];
-    let loaded = load(&rt, &name[..length], &mut text);
-    if !loaded.readable {
-        return Ok(());
-    }
-    let size = loaded.length;
-    let read = read_drawing(&text[0..size]);
-    let scheme = read.scheme;
-    let instance = read.instance;
-    let answer = read.answer;
-    match answer {
-        Answer::Accepted => show_rules(&rt, scheme, instance),
-        Answer::Refused(refusal) => {
+    let Some(length) = load(&rt, &name[..named], &mut text) else {
+        return Ok(())
+    };
+    match read_drawing(&text[..length]) {
+        Ok(Drawing { scheme, instance }) => show_rules(&rt, scheme, instance),
+        Err(refusal) => {
             print_refused(&rt, refusal)?;
             rt.write_all(b"\n")
         }

@@ -1,7 +1,6 @@
 -- Worked cases beside E1 to E10: what "Plausible, and a fault" names and the examples don't show, the limits at their edge, and each of the
 -- fourteen refusals.
-use Rattle.std.specs.Prelude.{ℕ, ◌≡◌, refl, Bool, true, false, ◌&&◌, List, [], ◌∷◌, ◌++◌, map, length, take, replicate}
-use Rattle.std.proofs.Math.Option.{none, some}
+use Rattle.std.specs.Prelude.{ℕ, ◌≡◌, refl, Bool, true, false, ◌&&◌, List, [], ◌∷◌, ◌++◌, map, length, take, replicate, None, Some}
 use Rattle.lists.specs.Lists.{any, each, count_from}
 use Rattle.model.specs.Graph.{Declared, Triple, Scheme, Node, Instance, Pattern, conforms, pattern_conforms, scheme_listed, instance_listed, pattern_listed}
 use Rattle.model.specs.Operations.{applied}
@@ -118,13 +117,13 @@ bad_instances =
 -- numbered from 1; no such class; a value on an object node; value 65536; an edge with no source; seven nodes; nine edges
 abbrev bad_patterns : List Pattern
 bad_patterns =
-    record { nodes = node 1 0 none ∷ []; edges = [] }
-    ∷ record { nodes = node 0 2 none ∷ []; edges = [] }
-    ∷ record { nodes = node 0 0 (some 0) ∷ []; edges = [] }
-    ∷ record { nodes = node 0 1 (some 65536) ∷ []; edges = [] }
-    ∷ record { nodes = node 0 0 none ∷ []; edges = triple 1 0 0 ∷ [] }
-    ∷ record { nodes = map (λ i. node i 0 none) (count_from 0 7); edges = [] }
-    ∷ record { nodes = map (λ i. node i 0 none) (count_from 0 3); edges = triples_of 0 1 }
+    record { nodes = node 1 0 None ∷ []; edges = [] }
+    ∷ record { nodes = node 0 2 None ∷ []; edges = [] }
+    ∷ record { nodes = node 0 0 (Some 0) ∷ []; edges = [] }
+    ∷ record { nodes = node 0 1 (Some 65536) ∷ []; edges = [] }
+    ∷ record { nodes = node 0 0 None ∷ []; edges = triple 1 0 0 ∷ [] }
+    ∷ record { nodes = map (λ i. node i 0 None) (count_from 0 7); edges = [] }
+    ∷ record { nodes = map (λ i. node i 0 None) (count_from 0 3); edges = triples_of 0 1 }
     ∷ []
 
 abbrev answer : Record → Call → List ℕ

@@ -1,43 +1,26 @@
--- The code's answer enums as the record's answers: what each case of each enum says.
-use Rattle.std.specs.Prelude.{ℕ, List, take}
-use Rattle.std.proofs.Math.Option.{none, some}
+-- The code's answers as the record's answers: the report of an accepted call, or the refusal.
+use Rattle.std.specs.Prelude.{ℕ, Result, Ok, Err}
+use Rattle.std.specs.Bool.{⊤}
 use Rattle.model.specs.Refusals.{Outcome, accepted, refused}
-use Rattle.model.specs.Record.{Report, nothing, declared, counted, matching, saved}
-use Rattle.model.specs.declared.OpenAnswer.{OpenAnswer}
-use Rattle.model.specs.declared.OpenAnswer.TheVariants as open-answer
-use Rattle.model.specs.declared.ApplyAnswer.{ApplyAnswer}
-use Rattle.model.specs.declared.ApplyAnswer.TheVariants as apply-answer
-use Rattle.model.specs.declared.UndoAnswer.{UndoAnswer}
-use Rattle.model.specs.declared.UndoAnswer.TheVariants as undo-answer
-use Rattle.model.specs.declared.CloseAnswer.{CloseAnswer}
-use Rattle.model.specs.declared.CloseAnswer.TheVariants as close-answer
-use Rattle.model.specs.declared.MatchingAnswer.{MatchingAnswer}
-use Rattle.model.specs.declared.MatchingAnswer.TheVariants as matching-answer
-use Rattle.model.specs.declared.SaveAnswer.{SaveAnswer}
-use Rattle.model.specs.declared.SaveAnswer.TheVariants as save-answer
+use Rattle.model.specs.Record.{Report, nothing, declared, counted, saved}
+use Rattle.model.specs.declared.Refusal.{Refusal}
+use Rattle.model.specs.declared.Opened.{Opened}
+use Rattle.model.specs.declared.Counts.{Counts}
 
-abbrev pub open_answer : OpenAnswer → Outcome Report
-open_answer (open-answer.Opened classes names) = accepted (declared classes names)
-open_answer (open-answer.Refused r) = refused r
+-- a result in the code as an outcome, with what its value stands for
+abbrev pub outcome : {A B : Type 0} → (A → B) → Result A Refusal → Outcome B
+outcome f (Ok a) = accepted (f a)
+outcome f (Err r) = refused r
 
-abbrev pub apply_answer : ApplyAnswer → Outcome Report
-apply_answer (apply-answer.Applied counts) = accepted (counted counts)
-apply_answer (apply-answer.Refused r) = refused r
+abbrev pub open_answer : Result Opened Refusal → Outcome Report
+open_answer = outcome (λ o. declared o.classes o.names)
 
-abbrev pub undo_answer : UndoAnswer → Outcome Report
-undo_answer undo-answer.Undone = accepted nothing
-undo_answer (undo-answer.Refused r) = refused r
+abbrev pub apply_answer : Result Counts Refusal → Outcome Report
+apply_answer = outcome counted
 
-abbrev pub close_answer : CloseAnswer → Outcome Report
-close_answer close-answer.Closed = accepted nothing
-close_answer (close-answer.Refused r) = refused r
+-- of undo and close
+abbrev pub step_answer : Result ⊤ Refusal → Outcome Report
+step_answer = outcome (λ _. nothing)
 
--- the numbers of a matching that is found stand in an array beside the answer
-abbrev pub matching_answer : MatchingAnswer → (beside : List ℕ) → Outcome Report
-matching_answer (matching-answer.Found length) beside = accepted (matching (some (take length beside)))
-matching_answer matching-answer.Nothing beside = accepted (matching none)
-matching_answer (matching-answer.Refused r) beside = refused r
-
-abbrev pub save_answer : SaveAnswer → Outcome Report
-save_answer (save-answer.Saved length) = accepted (saved length)
-save_answer (save-answer.Refused r) = refused r
+abbrev pub save_answer : Result ℕ Refusal → Outcome Report
+save_answer = outcome saved

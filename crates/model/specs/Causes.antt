@@ -1,7 +1,6 @@
 -- "When the engine declines" as a relation: which refusal a call gets on a record. "Each is returned if its cause holds and no earlier one
 -- does, never otherwise."
-use Rattle.std.specs.Prelude.{ℕ, suc, ◌+◌, ◌<◌, ◌≤◌, ◌≡◌, Bool, true, false, not, ◌&&◌, List, [], ◌∷◌, ◌++◌, map, length}
-use Rattle.std.proofs.Math.Option.{Option, none, some}
+use Rattle.std.specs.Prelude.{ℕ, suc, ◌+◌, ◌<◌, ◌≤◌, ◌≡◌, Bool, true, false, not, ◌&&◌, List, [], ◌∷◌, ◌++◌, map, length, Option, None, Some}
 use Rattle.model.specs.Limits
 use Rattle.model.specs.Graph.{Triple, Scheme, Node, Instance, torn}
 use Rattle.model.specs.Matching.{matchings}
@@ -35,26 +34,26 @@ module _ {K : Type 0} (f : Format K) where
   -- what is wrong with a line under the lines above it, "tried 1 to 5"
   pub data BadLine (above : List (Line K)) : Option (Line K) → Refusal → Type 0 where
     -- 1: "line out of form, range, turn or order"
-    out-of-form : BadLine above none (Malformed (suc (length above)))
-    out-of-turn : {l : Line K} → in_place f above l ≡ false → BadLine above (some l) (Malformed (suc (length above)))
+    out-of-form : BadLine above None (Malformed (suc (length above)))
+    out-of-turn : {l : Line K} → in_place f above l ≡ false → BadLine above (Some l) (Malformed (suc (length above)))
     -- 2: "more .. lines than allowed"
-    too_many : {l : Line K} → in_place f above l ≡ true → crowded f above l ≡ true → BadLine above (some l) (TooMany (suc (length above)))
+    too_many : {l : Line K} → in_place f above l ≡ true → crowded f above l ≡ true → BadLine above (Some l) (TooMany (suc (length above)))
     -- 3: "class, name or (pattern) node not declared above"
     undeclared : {l : Line K} → in_place f above l ≡ true → crowded f above l ≡ false → (checks_of f above l).declared ≡ false
-        → BadLine above (some l) (Undeclared (suc (length above)))
+        → BadLine above (Some l) (Undeclared (suc (length above)))
     -- 4: "line breaks conformity" and the like
     nonconforming : {l : Line K} → in_place f above l ≡ true → crowded f above l ≡ false → (checks_of f above l).declared ≡ true
-        → (checks_of f above l).conforming ≡ false → BadLine above (some l) (Nonconforming (suc (length above)))
+        → (checks_of f above l).conforming ≡ false → BadLine above (Some l) (Nonconforming (suc (length above)))
     -- 5: "action line: wrong kind" and the like
     bad-action : {l : Line K} → in_place f above l ≡ true → crowded f above l ≡ false → (checks_of f above l).declared ≡ true
-        → (checks_of f above l).conforming ≡ true → (checks_of f above l).suited ≡ false → BadLine above (some l) (BadAction (suc (length above)))
+        → (checks_of f above l).conforming ≡ true → (checks_of f above l).suited ≡ false → BadLine above (Some l) (BadAction (suc (length above)))
 
   -- "the first bad line", or a line "missing at the end (then one past the last line)"
   pub data BadText (text : List ℕ) : Refusal → Type 0 where
     first-bad : (above : List (Line K)) (o : Option (Line K)) (rest : List (Option (Line K))) {x : Refusal}
-        → lines_of f (pieces 10 text) ≡ map some above ++ o ∷ rest → all_pass [] above ≡ true → BadLine above o x → BadText text x
+        → lines_of f (pieces 10 text) ≡ map Some above ++ o ∷ rest → all_pass [] above ≡ true → BadLine above o x → BadText text x
     missing : (ls : List (Line K))
-        → lines_of f (pieces 10 text) ≡ map some ls → all_pass [] ls ≡ true → f.complete ls ≡ false → BadText text (Malformed (suc (length ls)))
+        → lines_of f (pieces 10 text) ≡ map Some ls → all_pass [] ls ≡ true → f.complete ls ≡ false → BadText text (Malformed (suc (length ls)))
 
 -- # Operations
 -- "For new nodes 9, 10, 11 are tried at each new node in turn": there is no room in the drawing for a node with these edges
@@ -83,7 +82,7 @@ pub data Declines (s : Scheme) (ms : List (List ℕ)) (d : Instance) : Action �
   abstracting : {p K a b : ℕ} {x : Refusal}
       → Stuck K (λ group now. grouped K b d group) (group_arms b) (groups_of p a ms d) d x → Declines s ms d (abstract p K a b) x
   union-full : {ts : List Triple} (es : List Triple) → Joined ts ms d es → Limits.edges < length es → Declines s ms d (add_edges ts) EdgesFull
-  clash : {ts : List Triple} (es : List Triple) {n : Node ℕ} → Joined ts ms d es → length es ≤ Limits.edges → SmallestTorn s d es (some n)
+  clash : {ts : List Triple} (es : List Triple) {n : Node ℕ} → Joined ts ms d es → length es ≤ Limits.edges → SmallestTorn s d es (Some n)
       → Declines s ms d (add_edges ts) (FunctionalClash n.number)
 
 abbrev pub opens : Call → Bool
@@ -97,13 +96,13 @@ opens (Save buffer) = false
 
 -- the rule text of a call that has one
 abbrev pub rule_of : Call → Option (List ℕ)
-rule_of (Open file) = none
-rule_of (Apply rule) = some rule
-rule_of Undo = none
-rule_of Close = none
-rule_of (First rule) = some rule
-rule_of (After rule list) = some rule
-rule_of (Save buffer) = none
+rule_of (Open file) = None
+rule_of (Apply rule) = Some rule
+rule_of Undo = None
+rule_of Close = None
+rule_of (First rule) = Some rule
+rule_of (After rule list) = Some rule
+rule_of (Save buffer) = None
 
 -- the table. "Order: 6 or 7; then the first bad line, tried 1 to 5; then 14, or 8, or 13."
 pub data Cause : Record → Call → Refusal → Type 0 where
@@ -113,7 +112,7 @@ pub data Cause : Record → Call → Refusal → Type 0 where
   -- 1 to 5
   bad-file : {file : List ℕ} {x : Refusal} → BadText drawing_format file x → Cause shut (Open file) x
   bad-rule : {s : Scheme} {d : Instance} {cs : List Instance} {c : Call} {rule : List ℕ} {x : Refusal}
-      → rule_of c ≡ some rule → BadText (rule_format s) rule x → Cause (opened s d cs) c x
+      → rule_of c ≡ Some rule → BadText (rule_format s) rule x → Cause (opened s d cs) c x
   -- 8: "undo with no copy"
   no_copy : {s : Scheme} {d : Instance} → Cause (opened s d []) Undo NoCopy
   -- 9 to 12

@@ -1,10 +1,8 @@
 -- "Files": what drawing files and rule texts share. A format's parts of its own stand in the two modules below.
-use Rattle.std.specs.Prelude.{ℕ, suc, Bool, true, false, cond, not, ◌&&◌, ◌||◌, length, take, eqb, ltb, leb}
+use Rattle.std.specs.Prelude.{ℕ, suc, Bool, true, false, cond, not, ◌&&◌, ◌||◌, length, take, eqb, ltb, leb, option_map, Option, None, Some}
 use Prim.Native.String.{String}
-use Rattle.std.proofs.Math.Option
-use Rattle.std.proofs.Math.Option.{Option, none, some}
-use mathlib.Core.List.{List, [], ◌∷◌, ◌++◌, map, get_last?}
-use Rattle.lists.specs.Lists.{keep, find, ◌!◌}
+use mathlib.Core.List.{List, [], ◌∷◌, ◌++◌, map}
+use Rattle.lists.specs.Lists.{keep, find, ◌!◌, last_of}
 use Rattle.lists.specs.Order.{same, before}
 use Rattle.lists.specs.Text.{bytes, pieces}
 use Rattle.lists.specs.Decimal.{decimal, value, is_numeral}
@@ -34,12 +32,12 @@ pub record Line (K : Type 0) : Type 0 where
   pub numbers : List ℕ
 
 abbrev pub rises : Option ℕ → List ℕ → List ℕ → Bool
-rises none x y = true
-rises (some n) x y = before (take n x) (take n y)
+rises None x y = true
+rises (Some n) x y = before (take n x) (take n y)
 
 abbrev pub full : Option ℕ → ℕ → Bool
-full none n = false
-full (some most) n = leb most n
+full None n = false
+full (Some most) n = leb most n
 
 abbrev pub commas : List ℕ → List ℕ
 commas [] = []
@@ -57,8 +55,8 @@ module _ {K : Type 0} (form_of : K → Form) where
 
   -- in turn and order after the line above
   abbrev pub follows : Option (Line K) → Line K → Bool
-  follows none l = true
-  follows (some a) l =
+  follows None l = true
+  follows (Some a) l =
       let turn = (form_of a.key).turn in
       let next = form_of l.key in
       ltb turn next.turn || eqb turn next.turn && rises next.by a.numbers l.numbers
@@ -95,19 +93,19 @@ in_form (b ∷ bs) (t ∷ ts) = is_numeral t && ltb (value t) b && in_form bs ts
 module _ {K : Type 0} (f : Format K) where
   -- "key=numbers, comma between, no spaces": from the parts of a line between its bytes =
   abbrev pub line_of : List (List ℕ) → Option (Line K)
-  line_of [] = none
-  line_of (key ∷ []) = none
+  line_of [] = None
+  line_of (key ∷ []) = None
   line_of (key ∷ numbers ∷ []) =
       let ts = pieces 44 numbers in
-      Option.map {B = Line K} (λ k. record { key = k; numbers = map value ts })
+      option_map {U = Line K} (λ k. record { key = k; numbers = map value ts })
       (find (λ k. same (f.form_of k).key key && in_form (f.form_of k).below ts) f.keys)
-  line_of (key ∷ numbers ∷ more ∷ rest) = none
+  line_of (key ∷ numbers ∷ more ∷ rest) = None
 
   -- "each ended by byte 10": what stands after the last byte 10 is nothing, or a line out of form
   abbrev pub lines_of : List (List ℕ) → List (Option (Line K))
   lines_of [] = []
   lines_of ([] ∷ []) = []
-  lines_of ((b ∷ bs) ∷ []) = none ∷ []
+  lines_of ((b ∷ bs) ∷ []) = None ∷ []
   lines_of (l ∷ m ∷ ls) = line_of (pieces 61 l) ∷ lines_of (m ∷ ls)
 
   -- # A line under the lines above it
@@ -116,7 +114,7 @@ module _ {K : Type 0} (f : Format K) where
 
   -- it may stand there, and there are already as many of its kind as may be
   abbrev pub in_place : (above : List (Line K)) → Line K → Bool
-  in_place above l = follows f.form_of (get_last? above) l && (checks_of above l).placed
+  in_place above l = follows f.form_of (last_of above) l && (checks_of above l).placed
 
   abbrev pub crowded : (above : List (Line K)) → Line K → Bool
   crowded above l = full (f.form_of l.key).most (length (numbers_of f.form_of l.key above))
@@ -124,8 +122,8 @@ module _ {K : Type 0} (f : Format K) where
   -- "the first bad line, tried 1 to 5"; a line "missing at the end" is "one past the last line"
   unfoldable pub reading : (above : List (Line K)) → List (Option (Line K)) → Outcome (List (Line K))
   reading above [] = cond (f.complete above) (accepted above) (refused (Malformed (suc (length above))))
-  reading above (none ∷ ls) = refused (Malformed (suc (length above)))
-  reading above (some l ∷ ls) =
+  reading above (None ∷ ls) = refused (Malformed (suc (length above)))
+  reading above (Some l ∷ ls) =
       let line = suc (length above) in
       let c = checks_of above l in
       let rest = reading (above ++ (l ∷ [])) ls in

@@ -1,6 +1,5 @@
 -- "Scheme, drawing, pattern".
-use Rattle.std.specs.Prelude.{ℕ, Bool, false, not, ◌&&◌, ◌||◌, List, [], ◌∷◌, map, length, eqb, ltb, leb}
-use Rattle.std.proofs.Math.Option.{Option, none, some}
+use Rattle.std.specs.Prelude.{ℕ, Bool, false, not, ◌&&◌, ◌||◌, List, [], ◌∷◌, map, length, eqb, ltb, leb, Option, None, Some}
 use Rattle.lists.specs.Lists.{any, all, count_from}
 use Rattle.lists.specs.Order.{same, rising}
 use Rattle.model.specs.Limits
@@ -112,9 +111,9 @@ conforms s d = conforms_by eqb s d
 
 -- a value left out is shared with no node
 abbrev pub both_given : Option ℕ → Option ℕ → Bool
-both_given none w = false
-both_given (some v) none = false
-both_given (some v) (some w) = eqb v w
+both_given None w = false
+both_given (Some v) None = false
+both_given (Some v) (Some w) = eqb v w
 
 -- a pattern "conforms as a drawing does, but a value may be left out"
 abbrev pub pattern_conforms : Scheme → Pattern → Bool
@@ -157,8 +156,8 @@ instance_listed s d =
 
 -- a value is given only in a value class
 abbrev pub given_in : Scheme → ℕ → Option ℕ → Bool
-given_in s c none = declares s.classes c
-given_in s c (some v) = is_value s c && leb v Limits.last_value
+given_in s c None = declares s.classes c
+given_in s c (Some v) = is_value s c && leb v Limits.last_value
 
 unfoldable pub pattern_listed : Scheme → Pattern → Bool
 pattern_listed s p =

@@ -1,6 +1,5 @@
 -- What the theorems speak of: document 01's sentences as statements, most of them on members where the definitions have lists and tests.
-use Rattle.std.specs.Prelude.{ℕ, suc, ◌≤◌, ◌≡◌, ◌↔◌, ◌⊎◌, Bool, true, false, List, [], ◌∷◌, ◌++◌, map, length, take, eqb}
-use Rattle.std.proofs.Math.Option.{Option, none, some}
+use Rattle.std.specs.Prelude.{ℕ, suc, ◌≤◌, ◌≡◌, ◌↔◌, ◌⊎◌, Bool, true, false, List, [], ◌∷◌, ◌++◌, map, length, take, eqb, Option, None, Some}
 use Rattle.lists.specs.Lists.{◌∈◌, keep, ◌!◌}
 use Rattle.lists.specs.Order.{rising}
 use Rattle.lists.specs.Buffers.{at_front}
@@ -19,7 +18,7 @@ use Rattle.model.specs.declared.Counts.{Counts}
 -- # A matching
 -- the drawing node is "of the same class, with the given value where one is given"
 abbrev pub Fits : Node (Option ℕ) → Node ℕ → Type 0
-Fits q n = (q.class ≡ n.class) × ((w : ℕ) → q.value ≡ some w → w ≡ n.value)
+Fits q n = (q.class ≡ n.class) × ((w : ℕ) → q.value ≡ Some w → w ≡ n.value)
 
 -- a drawing node with the number i fits
 abbrev pub FitsAt : Instance → Node (Option ℕ) → ℕ → Type 0
@@ -215,8 +214,8 @@ cut_texts m n (After rule list) = After (take n rule) list
 cut_texts m n (Save buffer) = Save buffer
 
 abbrev pub scheme_of : Record → Option Scheme
-scheme_of shut = none
-scheme_of (opened s d cs) = some s
+scheme_of shut = None
+scheme_of (opened s d cs) = Some s
 
 -- the scheme is that of a file which an open among the calls has read when the record was shut, and no close comes after it
 pub record SinceOpen (r : Record) (calls : List Call) (s : Scheme) : Type 0 where

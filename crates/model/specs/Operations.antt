@@ -1,6 +1,5 @@
 -- "Five operations": what applying a rule makes of an instance, or refusal 9 to 12, and the counts that apply reports.
-use Rattle.std.specs.Prelude.{ℕ, suc, ◌+◌, max, Bool, cond, not, ◌&&◌, ◌||◌, List, [], ◌∷◌, ◌++◌, map, length, eqb, ltb, leb}
-use Rattle.std.proofs.Math.Option.{Option, none, some}
+use Rattle.std.specs.Prelude.{ℕ, suc, ◌+◌, max, Bool, cond, not, ◌&&◌, ◌||◌, List, [], ◌∷◌, ◌++◌, map, length, eqb, ltb, leb, Option, None, Some}
 use Rattle.lists.specs.Lists.{any, all, keep, find, each, ◌!◌, member, same_set}
 use Rattle.lists.specs.Order.{same, before}
 use Rattle.model.specs.Limits
@@ -78,8 +77,8 @@ images ts ms = each ms (λ m. map (image m) ts)
 
 -- 2. "The images of all matchings are joined to the edges"; "for edge addition 11 before 12", and 12 returns the "smallest such node"
 abbrev pub unless_torn : Option (Node ℕ) → Instance → Outcome Instance
-unless_torn (some n) d = refused (FunctionalClash n.number)
-unless_torn none d = accepted d
+unless_torn (Some n) d = refused (FunctionalClash n.number)
+unless_torn None d = accepted d
 
 unfoldable pub edge_addition : Scheme → List Triple → List (List ℕ) → Instance → Outcome Instance
 edge_addition s ts ms d =

@@ -1,6 +1,5 @@
 -- "The plain record": the calls, their answers, and what a list of calls makes of a record.
-use Rattle.std.specs.Prelude.{ℕ, cond, List, [], ◌∷◌, length, take, eqb, leb}
-use Rattle.std.proofs.Math.Option.{Option, none, some}
+use Rattle.std.specs.Prelude.{ℕ, cond, List, [], ◌∷◌, length, take, eqb, leb, Option, None, Some}
 use Rattle.lists.specs.Buffers.{at_front}
 use Rattle.model.specs.Limits
 use Rattle.model.specs.Graph.{Scheme, Instance}
@@ -39,8 +38,8 @@ abbrev pub report_numbers : Report → List ℕ
 report_numbers nothing = []
 report_numbers (declared c n) = c ∷ n ∷ []
 report_numbers (counted c) = c.matchings ∷ c.added.nodes ∷ c.added.edges ∷ c.removed.nodes ∷ c.removed.edges ∷ []
-report_numbers (matching none) = []
-report_numbers (matching (some m)) = m
+report_numbers (matching None) = []
+report_numbers (matching (Some m)) = m
 report_numbers (saved n) = n ∷ []
 
 -- what a call leaves: the record, the answer, and the buffer that was lent, [] where none was
@@ -131,8 +130,8 @@ run r (c ∷ cs) =
 
 -- "A listing is first, then after on each matching given, with the same rule text, until none."
 pub data ListingFrom (next : List ℕ → Outcome Report) : Outcome Report → List (List ℕ) → Type 0 where
-  ends : ListingFrom next (accepted (matching none)) []
-  goes : {m : List ℕ} {ms : List (List ℕ)} → ListingFrom next (next m) ms → ListingFrom next (accepted (matching (some m))) (m ∷ ms)
+  ends : ListingFrom next (accepted (matching None)) []
+  goes : {m : List ℕ} {ms : List (List ℕ)} → ListingFrom next (next m) ms → ListingFrom next (accepted (matching (Some m))) (m ∷ ms)
 
 abbrev pub Listing : Record → (rule : List ℕ) → List (List ℕ) → Type 0
 Listing r rule ms = ListingFrom (λ m. (step r (After rule m)).answer) (step r (First rule)).answer ms

@@ -1,13 +1,10 @@
 -- "When the engine declines": the number of each refusal and what is returned with it. Where each is given is said in Files (1 to 5),
 -- Operations (9 to 12) and Record (6 to 8, 13, 14).
 use Rattle.std.specs.Prelude.{ℕ, List, [], ◌∷◌}
+use Rattle.model.specs.declared.Row.{Row}
 use Rattle.model.specs.declared.Refusal.{Refusal}
 use Rattle.model.specs.declared.Refusal.TheVariants.{Malformed, TooMany, Undeclared, Nonconforming, BadAction, NotOpen, AlreadyOpen}
 use Rattle.model.specs.declared.Refusal.TheVariants.{NoCopy, NodesFull, NumbersFull, EdgesFull, FunctionalClash, BufferShort, LengthDiffers}
-
-pub record Row : Type 0 where
-  pub number : ℕ
-  pub returned : ℕ
 
 abbrev numbered : ℕ → ℕ → Row
 numbered n x = record { number = n; returned = x }

@@ -1,6 +1,8 @@
-// What a call answers: an enum for each call, and each holds the refusal enum. Its number and what is returned with it are `table_row`
+// What a call answers: a `Result` for each call, whose error is the refusal enum. A refusal's number and what is returned with it are `table_row`
 // (specs/Refusals.antt), and in code `table`.
 #![tactic(auto)]
+
+use std::fmt;
 
 // The fourteen rows of "When the engine declines", in their order, each with what the call returns.
 #[derive(Clone, Copy)]
@@ -21,11 +23,24 @@ pub enum Refusal {
     LengthDiffers { length: u64 },
 }
 
+// A row of the table: the number of a refusal, and what the call returns with it.
+#[derive(Clone, Copy)]
+pub struct Row {
+    pub number: u64,
+    pub returned: u64,
+}
+
+impl fmt::Display for Row {
+    fn fmt<W: fmt::Write>(&self, f: &mut fmt::Formatter<W>) -> fmt::Result {
+        write!(f, "{},{}", self.number, self.returned)
+    }
+}
+
 // Open reports how many classes and how many names were declared.
 #[derive(Clone, Copy)]
-pub enum OpenAnswer {
-    Opened { classes: u64, names: u64 },
-    Refused(Refusal),
+pub struct Opened {
+    pub classes: u64,
+    pub names: u64,
 }
 
 // How many nodes and edges one of two instances has and the other has not.
@@ -45,35 +60,12 @@ pub struct Counts {
     pub removed: Difference,
 }
 
-#[derive(Clone, Copy)]
-pub enum ApplyAnswer {
-    Applied(Counts),
-    Refused(Refusal),
-}
+pub type OpenAnswer = Result<Opened, Refusal>;
 
-#[derive(Clone, Copy)]
-pub enum UndoAnswer {
-    Undone,
-    Refused(Refusal),
-}
+pub type ApplyAnswer = Result<Counts, Refusal>;
 
-#[derive(Clone, Copy)]
-pub enum CloseAnswer {
-    Closed,
-    Refused(Refusal),
-}
-
-// First and after give a matching or none. The matching's numbers are in an array beside the answer.
-#[derive(Clone, Copy)]
-pub enum MatchingAnswer {
-    Found { length: u64 },
-    Nothing,
-    Refused(Refusal),
-}
+// Undo and close report nothing.
+pub type StepAnswer = Result<(), Refusal>;
 
 // Save reports the file's length in bytes.
-#[derive(Clone, Copy)]
-pub enum SaveAnswer {
-    Saved { length: u64 },
-    Refused(Refusal),
-}
+pub type SaveAnswer = Result<u64, Refusal>;

@@ -1,4 +1,4 @@
 -- Laws of notes, by subject.
 pub mod Noting
-pub mod Buffer
 pub mod Images
+pub mod Kept

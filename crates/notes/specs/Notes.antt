@@ -1,7 +1,7 @@
--- Notes: keys in the order in which they come, each once, at most so many; and how a buffer holds them.
-use Rattle.std.specs.Prelude.{ℕ, suc, ◌+◌, ◌≤◌, ◌≡◌, cond, not, ◌&&◌, length, take, drop, ltb}
+-- Notes: keys in the order in which they come, each once, at most so many.
+use Rattle.std.specs.Prelude.{ℕ, suc, cond, not, ◌&&◌, length, ltb}
 use mathlib.Core.List.{List, [], ◌∷◌, ◌++◌, foldl}
-use Rattle.lists.specs.Lists.{member, ◌!◌}
+use Rattle.lists.specs.Lists.{member}
 use Rattle.model.specs.Limits
 use Rattle.keys.specs.Keys.{join_key}
 
@@ -19,25 +19,3 @@ note_all log ks = foldl note log ks
 -- keys in rising order, each once
 abbrev pub sorted : List ℕ → List ℕ
 sorted ks = foldl (λ rising k. join_key k rising) [] ks
-
--- # In a buffer
--- the number of keys, the keys as they came, the keys as they rise
-abbrev pub count : List ℕ → ℕ
-count notes = notes ! 0
-
-unfoldable pub noted : List ℕ → List ℕ
-noted notes = take (count notes) (drop 1 notes)
-
-unfoldable pub in_order : List ℕ → List ℕ
-in_order notes = take (count notes) (drop (1 + most) notes)
-
--- a buffer as notes are kept in it
-pub record Kept (notes : List ℕ) : Type 0 where
-  pub room : length notes ≡ 1 + most + most
-  pub few : count notes ≤ most
-  pub order : in_order notes ≡ sorted (noted notes)
-
--- a buffer in which just these keys are noted
-pub record Notes (log notes : List ℕ) : Type 0 where
-  pub kept : Kept notes
-  pub holds : noted notes ≡ log

@@ -1,66 +1,91 @@
 // Keys that are noted while matchings are visited: each once, in the order in which they come, and beside them the same keys rising, so that one is
-// found by halving. specs/Notes.antt says what a buffer of notes holds.
+// found by halving. specs/Notes.antt says how keys are noted.
 #![tactic(auto)]
 
-ghost use Rattle.std.specs.Prelude.{◌≡◌, []};
-ghost use Rattle.notes.specs.Notes.{count, noted, note, note_all, Kept, Notes};
+ghost use Rattle.std.specs.Prelude.{◌≡◌, [], length};
+ghost use Rattle.notes.specs.Notes.{note, note_all, sorted};
 
 use graph::instance::PackedInstance;
 use keys::insert;
+pub use noting::{Arms, Noting};
+use std::marker::Model;
 
-// How many keys are noted at most: one more than an instance has edges, which tells that they are too many.
-pub const ROOM: usize = PackedInstance::EDGES + 1;
+mod noting;
 
-// A buffer has the number of its keys, then room for them as they come, then room for them as they rise.
-pub const COMING: usize = 1;
-
-pub const RISING: usize = COMING + ROOM;
-
-pub const LENGTH: usize = RISING + ROOM;
-
-// What a walk notes at a matching: an action is one of these, and then its parts. A key for each part, which is an edge between pattern nodes; or
-// one key for all parts together, each of which is a pattern node.
-pub const EACH: u64 = 0;
-
-pub const TOGETHER: u64 = 1;
-
-pub fn no_notes() -> [u64; LENGTH]
-    ensures { Notes [] result }
-{
-    [0; LENGTH]
+// Clauses see the keys as they came.
+// Kept: arrays of fixed length with a count beside, since the engine has no heap.
+#[derive(Drop)]
+pub struct Notes {
+    count: usize,
+    coming: [u64; Notes::ROOM],
+    rising: [u64; Notes::ROOM],
 }
 
-// How many keys are noted.
-pub fn count(notes: &[u64]) -> usize
-    requires { Kept notes.now }
-    ensures { result ≡ count notes.now }
-{
-    notes[0] as usize
+impl Model for Notes {
+    ghost use Rattle.std.specs.Prelude.{ℕ, List};
+    ghost use Rattle.notes.specs.Kept.{noted, Kept};
+
+    ghost Value = { List ℕ };
+
+    ghost view = { noted };
+
+    ghost invariant = { Kept };
 }
 
-// Notes a key, unless it is noted already or there is no room.
-pub fn note(notes: &mut [u64], key: u64)
-    requires { Kept notes.old }
-    ensures { Notes (note (noted notes.old) key) notes.new }
-{
-    let count = notes[0] as usize;
-    if count < ROOM {
-        let more = insert(&mut notes[RISING..], count, key);
-        if more != count {
-            notes[COMING + count] = key;
-            notes[0] = more as u64;
+impl Notes {
+    // How many keys are noted at most: one more than an instance has edges, which tells that they are too many.
+    pub const ROOM: usize = PackedInstance::EDGES + 1;
+
+    pub fn new() -> Notes
+        ensures { result ≡ [] }
+    {
+        Notes {
+            count: 0,
+            coming: [0; Notes::ROOM],
+            rising: [0; Notes::ROOM],
         }
     }
-}
 
-// Notes one key after another.
-pub fn note_all(notes: &mut [u64], keys: &[u64])
-    requires { Kept notes.old }
-    ensures { Notes (note_all (noted notes.old) keys.now) notes.new }
-{
-    let mut i = 0;
-    while i < keys.len() {
-        note(notes, keys[i]);
-        i += 1;
+    // How many keys are noted.
+    pub fn count(&self) -> usize
+        ensures { result ≡ length self.now }
+    {
+        self.count
+    }
+
+    // The keys in the order in which they came.
+    pub fn coming(&self) -> &[u64]
+        ensures { result.now ≡ self.now }
+    {
+        &self.coming[..self.count]
+    }
+
+    // The keys as they rise.
+    pub fn rising(&self) -> &[u64]
+        ensures { result.now ≡ sorted self.now }
+    {
+        &self.rising[..self.count]
+    }
+
+    // Notes a key, unless it is noted already or there is no room.
+    pub fn note(&mut self, key: u64)
+        ensures { self.new ≡ note self.old key }
+    {
+        if self.count < Notes::ROOM {
+            let more = insert(&mut self.rising, self.count, key);
+            if more != self.count {
+                self.coming[self.count] = key;
+                self.count = more;
+            }
+        }
+    }
+
+    // Notes one key after another.
+    pub fn note_all(&mut self, keys: &[u64])
+        ensures { self.new ≡ note_all self.old keys.now }
+    {
+        for key in keys {
+            self.note(*key);
+        }
     }
 }

@@ -1,8 +1,6 @@
 -- Where a byte stands in a text, and the numeral that a text is.
-use Rattle.std.specs.Prelude.{ℕ, suc, cond, ◌&&◌, List, [], ◌∷◌, eqb, ltb}
+use Rattle.std.specs.Prelude.{ℕ, suc, cond, ◌&&◌, List, [], ◌∷◌, eqb, ltb, Option, None, Some}
 use Rattle.lists.specs.Decimal.{value, is_numeral}
-use Rattle.numerals.specs.declared.scan.Numeral.{Numeral}
-use Rattle.numerals.specs.declared.scan.Numeral.TheVariants.{Is, Malformed}
 
 -- how many bytes stand before the first `byte`
 unfoldable pub up_to : ℕ → List ℕ → ℕ
@@ -10,5 +8,5 @@ up_to byte [] = 0
 up_to byte (x ∷ xs) = let rest = suc (up_to byte xs) in cond (eqb x byte) 0 rest
 
 -- a numeral whose value is below a limit
-unfoldable pub numeral_below : ℕ → List ℕ → Numeral
-numeral_below below t = cond (is_numeral t && ltb (value t) below) (Is (value t)) Malformed
+unfoldable pub numeral_below : ℕ → List ℕ → Option ℕ
+numeral_below below t = cond (is_numeral t && ltb (value t) below) (Some (value t)) None

@@ -10,13 +10,10 @@ const TEN: u64 = 10;
 pub fn numeral_length(n: u64) -> usize
     ensures { (result ≡ length (decimal n)) × (result ≤ most_digits) }
 {
-    let mut digits = 1;
-    let mut rest = n;
-    while TEN <= rest {
-        rest = rest / TEN;
-        digits += 1;
+    match n.checked_ilog10() {
+        Some(power) => power as usize + 1,
+        None => 1,
     }
-    digits
 }
 
 // The lowest digits of a number, from the last on. `first` is the byte of digit 0.
@@ -26,11 +23,9 @@ pub fn write_digits(buf: &mut [u8], count: usize, base: u64, first: u64, n: u64)
     ensures { Writes (lowest base first count n) buf.old result buf.new }
 {
     let mut rest = n;
-    let mut i = 0;
-    while i < count {
-        i += 1;
-        buf[count - i] = (first + rest % base) as u8;
-        rest = rest / base;
+    for place in (0..count).rev() {
+        buf[place] = (first + rest % base) as u8;
+        rest /= base;
     }
     count
 }

@@ -1,6 +1,5 @@
 -- Laws of the operations, by subject.
 pub mod Asked
-pub mod Slices
 pub mod Performed
 pub mod Counted
 pub mod Calls

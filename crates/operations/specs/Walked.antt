@@ -6,7 +6,6 @@ use Rattle.graph.specs.Packed.{unpack_scheme, unpack_instance, unpack_pattern, S
 use Rattle.graph.specs.declared.instance.PackedInstance.{PackedInstance}
 use Rattle.graph.specs.declared.rule.PackedRule.{PackedRule}
 use Rattle.graph.specs.declared.scheme.PackedScheme.{PackedScheme}
-use Rattle.notes.specs.Notes.{Notes}
 use Rattle.notes.specs.Visits.{visited}
 use Rattle.rule_notes.specs.Noted.{noting_of, begun}
 
@@ -15,8 +14,8 @@ unfoldable pub walked : PackedInstance → PackedRule → List ℕ
 walked d r = foldl (visited (noting_of r.action)) (begun d r.action) (matchings (unpack_pattern r.pattern) (unpack_instance d))
 
 -- all matchings are visited, and the first keys were noted before
-pub record Walked (s : PackedScheme) (d : PackedInstance) (r : PackedRule) (first : ℕ) (buffer : List ℕ) : Type 0 where
+pub record Walked (s : PackedScheme) (d : PackedInstance) (r : PackedRule) (first : ℕ) (log : List ℕ) : Type 0 where
   pub instance : StoredInstance (unpack_scheme s) d
   pub rule : StoredRule (unpack_scheme s) r
   pub before : first ≡ length (begun d r.action)
-  pub notes : Notes (walked d r) buffer
+  pub notes : log ≡ walked d r

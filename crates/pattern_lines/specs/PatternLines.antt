@@ -1,6 +1,5 @@
 -- A line of a pattern: what it must meet, told from the pattern above it.
-use Rattle.std.specs.Prelude.{ℕ, Bool, true, not, ◌&&◌, eqb}
-use Rattle.std.proofs.Math.Option.{Option, none, some}
+use Rattle.std.specs.Prelude.{ℕ, Bool, true, not, ◌&&◌, eqb, Option, None, Some}
 use Rattle.lists.specs.Lists.{any}
 use Rattle.model.specs.Graph.{Triple, Scheme, Node, Pattern, declares, is_object, is_functional, stands, permits, both_given}
 use Rattle.model.specs.Files.{Checks, checks}
@@ -8,8 +7,8 @@ use Rattle.verdicts.specs.Verdicts.{last_shares}
 
 -- the pattern nodes above are apart already, and no edge stands yet
 abbrev value_fits : Scheme → Pattern → ℕ → Option ℕ → Bool
-value_fits s p c none = true
-value_fits s p c (some v) = not (is_object s c) && not (any (λ m. eqb m.class c && both_given m.value (some v)) p.nodes)
+value_fits s p c None = true
+value_fits s p c (Some v) = not (is_object s c) && not (any (λ m. eqb m.class c && both_given m.value (Some v)) p.nodes)
 
 unfoldable pub pnode_checks : Scheme → Pattern → Node (Option ℕ) → Checks
 pnode_checks s p n = checks true (declares s.classes n.class) (value_fits s p n.class n.value) true

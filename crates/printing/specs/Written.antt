@@ -3,7 +3,8 @@ use Rattle.std.specs.Prelude.{ℕ, ◌+◌, ◌*◌, cond, List, [], ◌∷◌, 
 use Rattle.lists.specs.Decimal.{decimal, most_digits}
 use Rattle.lists.specs.Radix.{unrank}
 use Rattle.model.specs.Files.{key_line}
-use Rattle.forms.specs.Forms.{kind_at, most_numbers}
+use Rattle.forms.specs.Forms.{kind_of, most_numbers}
+use Rattle.forms.specs.declared.LineKind.{LineKind}
 
 -- no line's numbers have more bytes, each with what ends it
 abbrev pub most_of_numbers : ℕ
@@ -23,5 +24,5 @@ unfoldable pub line_of : (key numbers : List ℕ) → List ℕ
 line_of key ns = key_line key ns
 
 -- the line of a row
-unfoldable pub row_text : (kind row : ℕ) → List ℕ
-row_text kind row = key_line (kind_at kind).form.key (unrank (kind_at kind).rooms row)
+unfoldable pub row_text : LineKind → (row : ℕ) → List ℕ
+row_text kind row = key_line (kind_of kind).form.key (unrank (kind_of kind).rooms row)

@@ -1,29 +1,26 @@
 // From rows to bytes: the lines of drawing files and rule texts as they are written.
 #![tactic(auto)]
 
-ghost use Rattle.std.specs.Prelude.{◌≡◌, ◌<◌, ◌≤◌, length};
+ghost use Rattle.std.specs.Prelude.{◌≡◌, ◌≤◌, length};
 ghost use Rattle.lists.specs.Radix.{unrank};
 ghost use Rattle.lists.specs.Buffers.{Writes};
-ghost use Rattle.forms.specs.Forms.{kind_count, kind_at, most_numbers, padded};
+ghost use Rattle.forms.specs.Forms.{kind_of, most_numbers, padded};
 ghost use Rattle.printing.specs.Written.{most_of_numbers, ender, numbers_text, line_of, row_text};
 
-use forms::{BYTES, Form, form_at};
+use forms::{BYTES, Form, LineKind};
 use numerals::digits::{numeral_length, write_digits, write_numeral};
 
 // The numbers of a line, got from its row by dividing by the rooms, from the last on.
-fn numbers_of(kind: usize, row: u64) -> [u64; Form::NUMBERS]
-    requires { kind < kind_count }
-    ensures { result ≡ padded (unrank (kind_at kind).rooms row) }
+fn numbers_of(kind: LineKind, row: u64) -> [u64; Form::NUMBERS]
+    ensures { result ≡ padded (unrank (kind_of kind).rooms row) }
 {
-    let form = form_at(kind);
+    let form = kind.form();
     let mut numbers = [0; Form::NUMBERS];
     let mut rest = row;
-    let mut i = form.numbers;
-    while 1 < i {
-        i -= 1;
-        let room = form.room[i];
-        numbers[i] = rest % room;
-        rest = rest / room;
+    for place in (1..form.numbers).rev() {
+        let room = form.room[place];
+        numbers[place] = rest % room;
+        rest /= room;
     }
     numbers[0] = rest;
     numbers
@@ -42,10 +39,8 @@ fn numbers_length(numbers: &[u64]) -> usize
     ensures { (result ≡ length (numbers_text numbers.now)) × (result ≤ most_of_numbers) }
 {
     let mut length = 0;
-    let mut i = 0;
-    while i < numbers.len() {
-        length += numeral_length(numbers[i]) + 1;
-        i += 1;
+    for n in numbers {
+        length += numeral_length(*n) + 1;
     }
     length
 }
@@ -55,11 +50,9 @@ fn write_numbers(buf: &mut [u8], numbers: &[u64]) -> usize
     ensures { Writes (numbers_text numbers.now) buf.old result buf.new }
 {
     let mut at = 0;
-    let mut i = 0;
-    while i < numbers.len() {
-        at += write_numeral(&mut buf[at..], numbers[i]);
-        i += 1;
-        buf[at] = ender(numbers.len() - i);
+    for (place, n) in numbers.iter().enumerate() {
+        at += write_numeral(&mut buf[at..], *n);
+        buf[at] = ender(numbers.len() - (place + 1));
         at += 1;
     }
     at
@@ -69,12 +62,8 @@ fn write_key(buf: &mut [u8], key: &[u8]) -> usize
     requires { length key.now ≤ length buf.old }
     ensures { Writes key.now buf.old result buf.new }
 {
-    let mut i = 0;
-    while i < key.len() {
-        buf[i] = key[i];
-        i += 1;
-    }
-    i
+    buf[..key.len()].copy_from_slice(key);
+    key.len()
 }
 
 // "Lines are key=numbers, comma between, no spaces, each ended by byte 10."
@@ -90,20 +79,19 @@ pub fn write_line(buf: &mut [u8], key: &[u8], numbers: &[u64]) -> usize
 }
 
 // How many bytes the line has.
-pub fn row_length(kind: usize, row: u64) -> usize
-    requires { kind < kind_count }
+pub fn row_length(kind: LineKind, row: u64) -> usize
     ensures { result ≡ length (row_text kind row) }
 {
-    let form = form_at(kind);
+    let form = kind.form();
     let numbers = numbers_of(kind, row);
     form.letters + 1 + numbers_length(&numbers[..form.numbers])
 }
 
-pub fn write_row(buf: &mut [u8], kind: usize, row: u64) -> usize
-    requires { (kind < kind_count) × (length (row_text kind row) ≤ length buf.old) }
+pub fn write_row(buf: &mut [u8], kind: LineKind, row: u64) -> usize
+    requires { length (row_text kind row) ≤ length buf.old }
     ensures { Writes (row_text kind row) buf.old result buf.new }
 {
-    let form = form_at(kind);
+    let form = kind.form();
     let numbers = numbers_of(kind, row);
     let mut key = [0u8; Form::KEY_BYTES];
     write_digits(&mut key, form.letters, BYTES, 0, form.key);

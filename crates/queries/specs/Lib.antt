@@ -1,2 +1,3 @@
--- Laws of the calls that only read the session.
+-- What the calls that only read the session read of a rule text, and laws of these calls.
+pub mod Patterns
 pub mod Laws

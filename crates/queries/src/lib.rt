@@ -1,61 +1,44 @@
 // The calls that only read the session, by value: first, after, save. Each is held to `Stepped`.
 #![tactic(auto)]
 
-ghost use Rattle.std.specs.Prelude.{◌≡◌, []};
-ghost use Rattle.model.specs.Refusals.{refused};
+ghost use Rattle.std.specs.Prelude.{[]};
 ghost use Rattle.model.specs.Record.{First, After, Save};
 ghost use Rattle.model.specs.Answers.{save_answer};
 ghost use Rattle.matcher.specs.Matchers.{given};
 ghost use Rattle.session.specs.Sessions.{StoredSession, Stepped};
+ghost use Rattle.queries.specs.Patterns.{ReadsPattern};
 
 use graph::pattern::PackedPattern;
-use matcher::listing::{Matched, after, first};
-use model::{MatchingAnswer, Refusal, SaveAnswer};
+use matcher::listing::{Matching, after, first};
+use model::{Refusal, SaveAnswer};
 use rules::read_rule;
 use session::Session;
-use verdicts::Answer;
 use writing::save::save;
 
-fn refused_matching(refusal: Refusal) -> Matched
-    ensures { given result ≡ refused refusal }
+// The pattern of a rule text, read in the open scheme.
+fn read_pattern(session: Session, rule: &[u8]) -> Result<PackedPattern, Refusal>
+    requires { StoredSession session }
+    ensures { ReadsPattern session rule.now result }
 {
-    let numbers = [0; PackedPattern::NODES];
-    Matched {
-        answer: MatchingAnswer::Refused(refusal),
-        numbers,
+    if !session.opened {
+        return Err(Refusal::NotOpen);
     }
+    let read = read_rule(rule, session.scheme)?;
+    Ok(read.pattern)
 }
 
-pub fn first_value(session: Session, rule: &[u8]) -> Matched
+pub fn first_value(session: Session, rule: &[u8]) -> Result<Option<Matching>, Refusal>
     requires { StoredSession session }
     ensures { Stepped (First rule.now) session (given result) [] session }
 {
-    if !session.opened {
-        return refused_matching(Refusal::NotOpen);
-    }
-    let read = read_rule(rule, session.scheme);
-    let accepted = read.rule;
-    let answer = read.answer;
-    match answer {
-        Answer::Accepted => first(session.instance, accepted.pattern),
-        Answer::Refused(refusal) => refused_matching(refusal),
-    }
+    Ok(first(session.instance, read_pattern(session, rule)?))
 }
 
-pub fn after_value(session: Session, rule: &[u8], list: &[u64]) -> Matched
+pub fn after_value(session: Session, rule: &[u8], list: &[u64]) -> Result<Option<Matching>, Refusal>
     requires { StoredSession session }
     ensures { Stepped (After rule.now list.now) session (given result) [] session }
 {
-    if !session.opened {
-        return refused_matching(Refusal::NotOpen);
-    }
-    let read = read_rule(rule, session.scheme);
-    let accepted = read.rule;
-    let answer = read.answer;
-    match answer {
-        Answer::Accepted => after(session.instance, accepted.pattern, list),
-        Answer::Refused(refusal) => refused_matching(refusal),
-    }
+    after(session.instance, read_pattern(session, rule)?, list)
 }
 
 // "Save, too, only reads the session, and writes the drawing file."
@@ -63,8 +46,9 @@ pub fn save_value(session: Session, buf: &mut [u8]) -> SaveAnswer
     requires { StoredSession session }
     ensures { Stepped (Save buf.old) session (save_answer result) buf.new session }
 {
-    if !session.opened {
-        return SaveAnswer::Refused(Refusal::NotOpen);
+    if session.opened {
+        save(session.scheme, session.instance, buf)
+    } else {
+        Err(Refusal::NotOpen)
     }
-    save(session.scheme, session.instance, buf)
 }

@@ -9,35 +9,37 @@ use graph::scheme::PackedScheme;
 use model::Refusal;
 use std::io;
 
-fn refused(rt: &impl Print, r: Refusal) -> io::Result<()> {
-    let number = table::number(r);
-    let returned = table::returned(r);
-    println!(rt; "refused={number},{returned}")
-}
-
-fn limit(rt: &impl Print, key: &str, most: usize) -> io::Result<()> {
-    println!(rt; "{key}={most}")
-}
+const REFUSALS: [Refusal; 14] = [
+    Refusal::Malformed { line: 11 },
+    Refusal::TooMany { line: 12 },
+    Refusal::Undeclared { line: 13 },
+    Refusal::Nonconforming { line: 14 },
+    Refusal::BadAction { line: 15 },
+    Refusal::NotOpen,
+    Refusal::AlreadyOpen,
+    Refusal::NoCopy,
+    Refusal::NodesFull,
+    Refusal::NumbersFull,
+    Refusal::EdgesFull,
+    Refusal::FunctionalClash { node: 65535 },
+    Refusal::BufferShort { needed: 115 },
+    Refusal::LengthDiffers { length: 6 },
+];
 
 fn main(rt: HostRuntime) -> io::Result<()> {
-    refused(&rt, Refusal::Malformed { line: 11 })?;
-    refused(&rt, Refusal::TooMany { line: 12 })?;
-    refused(&rt, Refusal::Undeclared { line: 13 })?;
-    refused(&rt, Refusal::Nonconforming { line: 14 })?;
-    refused(&rt, Refusal::BadAction { line: 15 })?;
-    refused(&rt, Refusal::NotOpen)?;
-    refused(&rt, Refusal::AlreadyOpen)?;
-    refused(&rt, Refusal::NoCopy)?;
-    refused(&rt, Refusal::NodesFull)?;
-    refused(&rt, Refusal::NumbersFull)?;
-    refused(&rt, Refusal::EdgesFull)?;
-    refused(&rt, Refusal::FunctionalClash { node: 65535 })?;
-    refused(&rt, Refusal::BufferShort { needed: 115 })?;
-    refused(&rt, Refusal::LengthDiffers { length: 6 })?;
-    limit(&rt, "permitted", PackedScheme::PERMITTED)?;
-    limit(&rt, "nodes", PackedInstance::NODES)?;
-    limit(&rt, "edges", PackedInstance::EDGES)?;
-    limit(&rt, "pattern nodes", PackedPattern::NODES)?;
-    limit(&rt, "pattern edges", PackedPattern::EDGES)?;
-    limit(&rt, "copies", History::COPIES)
+    for refusal in REFUSALS {
+        println!(rt; "refused={}", table::row(refusal))?;
+    }
+    let limits = [
+        ("permitted", PackedScheme::PERMITTED),
+        ("nodes", PackedInstance::NODES),
+        ("edges", PackedInstance::EDGES),
+        ("pattern nodes", PackedPattern::NODES),
+        ("pattern edges", PackedPattern::EDGES),
+        ("copies", History::COPIES),
+    ];
+    for (key, most) in limits {
+        println!(rt; "{key}={most}")?;
+    }
+    Ok(())
 }

@@ -1,3 +1,2 @@
--- What is reported, and laws of it.
+-- What is reported.
 pub mod Reported
-pub mod Laws

@@ -1,12 +1,9 @@
 -- What is reported of an applied rule, as code counts it.
-use Rattle.std.specs.Prelude.{ℕ, ◌-◌, ◌≡◌, length}
+use Rattle.std.specs.Prelude.{ℕ, ◌-◌, ◌≡◌, length, Result, Ok, Err, IfOk}
 use Rattle.model.specs.Limits
 use Rattle.model.specs.declared.Counts.{Counts}
-use Rattle.model.specs.declared.ApplyAnswer.TheVariants as apply-answer
+use Rattle.model.specs.declared.Refusal.{Refusal}
 use Rattle.graph.specs.declared.instance.PackedInstance.{PackedInstance}
-use Rattle.growth.specs.declared.Changed.{Changed}
-use Rattle.growth.specs.declared.Verdict.{Verdict}
-use Rattle.growth.specs.declared.Verdict.TheVariants.{Done, Refused}
 use Rattle.reports.specs.declared.Applied.{Applied}
 
 -- of two instances of which one has all that the other has, how many more either has
@@ -17,19 +14,17 @@ counts_of old matchings new = record {
   removed = record { nodes = old.order - new.order; edges = old.size - new.size };
 }
 
-abbrev pub report_for : Verdict → (old : PackedInstance) → (matchings : ℕ) → (new : PackedInstance) → Applied
-report_for Done old matchings new = record { answer = apply-answer.Applied (counts_of old matchings new); instance = new }
-report_for (Refused r) old matchings new = record { answer = apply-answer.Refused r; instance = old }
-
-abbrev pub report_of : (old : PackedInstance) → (matchings : ℕ) → Changed → Applied
-report_of old matchings c = report_for c.verdict old matchings c.instance
+-- a refusal leaves no instance of its own
+abbrev pub report_of : (old : PackedInstance) → (matchings : ℕ) → Result PackedInstance Refusal → Result Applied Refusal
+report_of old matchings (Ok new) = Ok (record { counts = counts_of old matchings new; instance = new })
+report_of old matchings (Err r) = Err r
 
 -- an instance's arrays have their full length, whatever stands in them
 pub record Roomy (d : PackedInstance) : Type 0 where
   pub nodes : length d.nodes ≡ Limits.nodes
   pub edges : length d.edges ≡ Limits.edges
 
-pub record Reports (old : PackedInstance) (matchings : ℕ) (c : Changed) (a : Applied) : Type 0 where
-  pub report : a ≡ report_of old matchings c
+pub record Reports (old : PackedInstance) (matchings : ℕ) (changed : Result PackedInstance Refusal) (answer : Result Applied Refusal) : Type 0 where
+  pub report : answer ≡ report_of old matchings changed
   pub old-room : Roomy old
-  pub new-room : Roomy c.instance
+  pub new-room : IfOk changed Roomy

@@ -1,25 +1,17 @@
 // The answer to an applied rule: five counts, told from the numbers of nodes and edges before and after, or the refusal.
 #![tactic(auto)]
 
-ghost use Rattle.std.specs.Prelude.{◌≡◌, ◌-◌};
+ghost use Rattle.std.specs.Prelude.{◌≡◌};
 ghost use Rattle.reports.specs.Reported.{counts_of, Reports};
 
 use graph::instance::PackedInstance;
-use growth::{Changed, Verdict};
-use model::{ApplyAnswer, Counts, Difference};
+use model::{Counts, Difference, Refusal};
 
-// The answer, and the instance after it.
+// What is reported, and the instance afterwards.
 #[derive(Clone, Copy)]
 pub struct Applied {
-    pub answer: ApplyAnswer,
+    pub counts: Counts,
     pub instance: PackedInstance,
-}
-
-// How many more the first are than the second.
-fn excess(a: usize, b: usize) -> u64
-    ensures { result ≡ a - b }
-{
-    if b < a { (a - b) as u64 } else { 0 }
 }
 
 // An operation only adds or only removes, so that the numbers of nodes and edges tell how many.
@@ -29,33 +21,27 @@ fn count_changes(old: PackedInstance, matchings: u64, new: PackedInstance) -> Co
     Counts {
         matchings,
         added: Difference {
-            nodes: excess(new.order, old.order),
-            edges: excess(new.size, old.size),
+            nodes: new.order.saturating_sub(old.order) as u64,
+            edges: new.size.saturating_sub(old.size) as u64,
         },
         removed: Difference {
-            nodes: excess(old.order, new.order),
-            edges: excess(old.size, new.size),
+            nodes: old.order.saturating_sub(new.order) as u64,
+            edges: old.size.saturating_sub(new.size) as u64,
         },
     }
 }
 
-// A refusal leaves the old instance.
-pub fn report(old: PackedInstance, matchings: u64, changed: Changed) -> Applied
+// A refusal is passed on: the old instance stays.
+pub fn report(
+    old: PackedInstance,
+    matchings: u64,
+    changed: Result<PackedInstance, Refusal>,
+) -> Result<Applied, Refusal>
     ensures { Reports old matchings changed result }
 {
-    let new = changed.instance;
-    let verdict = changed.verdict;
-    match verdict {
-        Verdict::Refused(refusal) => Applied {
-            answer: ApplyAnswer::Refused(refusal),
-            instance: old,
-        },
-        Verdict::Done => {
-            let counts = count_changes(old, matchings, new);
-            Applied {
-                answer: ApplyAnswer::Applied(counts),
-                instance: new,
-            }
-        }
-    }
+    let new = changed?;
+    Ok(Applied {
+        counts: count_changes(old, matchings, new),
+        instance: new,
+    })
 }

@@ -1,3 +1,2 @@
 -- Laws of results.
-pub mod Cases
 pub mod Numbers

@@ -3,14 +3,15 @@
 #![tactic(auto)]
 
 ghost use Rattle.std.specs.Prelude.{◌≡◌};
-ghost use Rattle.results.specs.Results.{open_result, apply_result, undo_result, close_result, matching_result, save_result, refused_step};
+ghost use Rattle.results.specs.Results.{told, open_result, apply_result, step_result, matching_result, save_result};
 
 use graph::pattern::PackedPattern;
-use matcher::listing::Matched;
+use matcher::listing::Matching;
 use model::{
-    ApplyAnswer, CloseAnswer, MatchingAnswer, OpenAnswer, Refusal, SaveAnswer, UndoAnswer,
+    ApplyAnswer, Counts, Difference, OpenAnswer, Opened, Refusal, Row, SaveAnswer, StepAnswer,
 };
 
+// Kept: a number for the refusal, and below one for what is found, since C is given these structs and no enum may cross the border.
 // Of undo and close, which report nothing.
 #[repr(C)]
 #[derive(Clone, Copy)]
@@ -60,143 +61,102 @@ pub struct SaveResult {
     pub length: u64,
 }
 
-// The row of the table of refusals.
-fn refused_step(refusal: Refusal) -> StepResult
-    ensures { result ≡ refused_step refusal }
+// What a refused apply reports.
+const NO_COUNTS: Counts = Counts {
+    matchings: 0,
+    added: Difference { nodes: 0, edges: 0 },
+    removed: Difference { nodes: 0, edges: 0 },
+};
+
+// The first two numbers, and what is reported; or the row of the table of refusals, and nothing to report.
+fn told<A: Copy>(answer: Result<A, Refusal>, nothing: A) -> (Row, A)
+    ensures { result ≡ told answer nothing }
 {
+    match answer {
+        Ok(report) => {
+            let done = Row {
+                number: 0,
+                returned: 0,
+            };
+            (done, report)
+        }
+        Err(refusal) => (table::row(refusal), nothing),
+    }
+}
+
+pub fn step_result(answer: StepAnswer) -> StepResult
+    ensures { result ≡ step_result answer }
+{
+    let (row, ()) = told(answer, ());
     StepResult {
-        refusal: table::number(refusal),
-        returned: table::returned(refusal),
+        refusal: row.number,
+        returned: row.returned,
     }
 }
 
 pub fn open_result(answer: OpenAnswer) -> OpenResult
     ensures { result ≡ open_result answer }
 {
-    match answer {
-        OpenAnswer::Opened { classes, names } => OpenResult {
-            refusal: 0,
-            returned: 0,
-            classes,
-            names,
+    let (row, opened) = told(
+        answer,
+        Opened {
+            classes: 0,
+            names: 0,
         },
-        OpenAnswer::Refused(refusal) => {
-            let row = refused_step(refusal);
-            OpenResult {
-                refusal: row.refusal,
-                returned: row.returned,
-                classes: 0,
-                names: 0,
-            }
-        }
+    );
+    OpenResult {
+        refusal: row.number,
+        returned: row.returned,
+        classes: opened.classes,
+        names: opened.names,
     }
 }
 
 pub fn apply_result(answer: ApplyAnswer) -> ApplyResult
     ensures { result ≡ apply_result answer }
 {
-    match answer {
-        ApplyAnswer::Applied(counts) => {
-            let added = counts.added;
-            let removed = counts.removed;
-            ApplyResult {
-                refusal: 0,
-                returned: 0,
-                matchings: counts.matchings,
-                nodes_added: added.nodes,
-                edges_added: added.edges,
-                nodes_removed: removed.nodes,
-                edges_removed: removed.edges,
-            }
-        }
-        ApplyAnswer::Refused(refusal) => {
-            let row = refused_step(refusal);
-            ApplyResult {
-                refusal: row.refusal,
-                returned: row.returned,
-                matchings: 0,
-                nodes_added: 0,
-                edges_added: 0,
-                nodes_removed: 0,
-                edges_removed: 0,
-            }
-        }
+    let (row, counts) = told(answer, NO_COUNTS);
+    ApplyResult {
+        refusal: row.number,
+        returned: row.returned,
+        matchings: counts.matchings,
+        nodes_added: counts.added.nodes,
+        edges_added: counts.added.edges,
+        nodes_removed: counts.removed.nodes,
+        edges_removed: counts.removed.edges,
     }
 }
 
-pub fn undo_result(answer: UndoAnswer) -> StepResult
-    ensures { result ≡ undo_result answer }
+pub fn matching_result(answer: Result<Option<Matching>, Refusal>) -> MatchingResult
+    ensures { result ≡ matching_result answer }
 {
-    match answer {
-        UndoAnswer::Undone => StepResult {
-            refusal: 0,
-            returned: 0,
-        },
-        UndoAnswer::Refused(refusal) => refused_step(refusal),
-    }
-}
-
-pub fn close_result(answer: CloseAnswer) -> StepResult
-    ensures { result ≡ close_result answer }
-{
-    match answer {
-        CloseAnswer::Closed => StepResult {
-            refusal: 0,
-            returned: 0,
-        },
-        CloseAnswer::Refused(refusal) => refused_step(refusal),
-    }
-}
-
-pub fn matching_result(matched: Matched) -> MatchingResult
-    ensures { result ≡ matching_result matched }
-{
-    let answer = matched.answer;
-    let numbers = matched.numbers;
-    match answer {
-        MatchingAnswer::Found { length } => MatchingResult {
-            refusal: 0,
-            returned: 0,
-            found: 1,
-            length,
-            numbers,
-        },
-        MatchingAnswer::Nothing => MatchingResult {
-            refusal: 0,
-            returned: 0,
-            found: 0,
-            length: 0,
-            numbers: [0; PackedPattern::NODES],
-        },
-        MatchingAnswer::Refused(refusal) => {
-            let row = refused_step(refusal);
-            MatchingResult {
-                refusal: row.refusal,
-                returned: row.returned,
-                found: 0,
+    let (row, matching) = told(answer, None);
+    let (found, Matching { length, numbers }) = match matching {
+        Some(matching) => (1, matching),
+        None => (
+            0,
+            Matching {
                 length: 0,
                 numbers: [0; PackedPattern::NODES],
-            }
-        }
+            },
+        ),
+    };
+    MatchingResult {
+        refusal: row.number,
+        returned: row.returned,
+        found,
+        length,
+        numbers,
     }
 }
 
 pub fn save_result(answer: SaveAnswer) -> SaveResult
     ensures { result ≡ save_result answer }
 {
-    match answer {
-        SaveAnswer::Saved { length: bytes } => SaveResult {
-            refusal: 0,
-            returned: 0,
-            length: bytes,
-        },
-        SaveAnswer::Refused(refusal) => {
-            let row = refused_step(refusal);
-            SaveResult {
-                refusal: row.refusal,
-                returned: row.returned,
-                length: 0,
-            }
-        }
+    let (row, bytes) = told(answer, 0);
+    SaveResult {
+        refusal: row.number,
+        returned: row.returned,
+        length: bytes,
     }
 }

@@ -1,20 +1,24 @@
 -- A line of a rule text: what it must meet, told from what the lines above it hold.
-use Rattle.std.specs.Prelude.{ℕ, suc, ◌/◌, ◌%◌, ◌^◌, ◌≤◌, ◌<◌, ◌≡◌, Bool, true, ◌&&◌, ◌||◌, List, map, length, take, eqb, ltb, leb}
+use Rattle.std.specs.Prelude.{ℕ, suc, ◌/◌, ◌%◌, ◌^◌, ◌≤◌, ◌<◌, ◌≡◌, Bool, true, false, ◌&&◌, ◌||◌, List, map, length, take, eqb, leb, Option, None, Some, IfSome, Result}
+use Rattle.std.specs.Option.{is_some}
+use Rattle.std.specs.Bool.{⊤}
 use Rattle.lists.specs.Order.{rising}
 use Rattle.model.specs.Limits
 use Rattle.model.specs.Graph.{Scheme, Pattern, row}
 use Rattle.model.specs.Files.{Checks, checks, full}
 use Rattle.model.specs.Files.RuleText.{RuleKey, op=, pnode=, pedge=, make=, arm=, put=, drop=, cut=, group=, rule_form, rule_format}
 use Rattle.model.specs.InForm.{LineInForm}
-use Rattle.model.specs.InForm.{code_of}
-use Rattle.forms.specs.Forms.{first_rule_kind, rule_key}
+use Rattle.model.specs.InForm.{code_of as key_code}
+use Rattle.model.specs.declared.Refusal.{Refusal}
+use Rattle.forms.specs.Forms.{of_drawing, turn_of, rule_key}
+use Rattle.forms.specs.declared.LineKind.TheVariants.{Make}
+use Rattle.graph.specs.Operations.{code_of}
 use Rattle.text.specs.Lines.{rule_line, Tabled, follows_last}
 use Rattle.text.specs.declared.lines.Line.{Line}
 use Rattle.text.specs.declared.lines.Last.{Last}
 use Rattle.graph.specs.Packed.{unpack_triple, unpack_arm, unpack_pattern_node, unpack_pattern}
 use Rattle.graph.specs.declared.rule.PackedRule.{PackedRule}
 use Rattle.verdicts.specs.Verdicts.{verdict}
-use Rattle.verdicts.specs.declared.Verdict.{Verdict}
 use Rattle.pattern_lines.specs.PatternLines.{pnode_checks, pedge_checks}
 use Rattle.action_lines.specs.ActionLines.{make_checks, arm_checks, put_checks, drop_checks, cut_checks, group_checks}
 
@@ -42,28 +46,29 @@ lines_above p parts drop= = parts
 lines_above p parts cut= = parts
 lines_above p parts group= = parts
 
--- the number of make lines' kind
-abbrev pub make_kind : ℕ
-make_kind = 8
+-- the last line above is an action line, of which make is the first kind
+abbrev pub in_action : Option Line → Bool
+in_action None = false
+in_action (Some a) = leb (turn_of Make) (turn_of a.kind)
 
 -- the line may stand there, besides its turn and order: op comes first, an action line stands under its own code, arm after make, and "value
 -- 0 when given is 0"
-unfoldable pub placed : Last → (code : ℕ) → RuleKey → (row : ℕ) → Bool
+unfoldable pub placed : Option Line → (code : ℕ) → RuleKey → (row : ℕ) → Bool
 placed last code op= r = true
-placed last code pnode= r = ltb 0 last.lines && (eqb (r / 2 ^ 32 % 2) 1 || eqb (r % 2 ^ 32) 0)
-placed last code pedge= r = ltb 0 last.lines
-placed last code make= r = ltb 0 last.lines && eqb code (code_of make=)
-placed last code arm= r = ltb 0 last.lines && leb make_kind last.line.kind
-placed last code put= r = ltb 0 last.lines && eqb code (code_of put=)
-placed last code drop= r = ltb 0 last.lines && eqb code (code_of drop=)
-placed last code cut= r = ltb 0 last.lines && eqb code (code_of cut=)
-placed last code group= r = ltb 0 last.lines && eqb code (code_of group=)
+placed last code pnode= r = is_some last && (eqb (r / 2 ^ 32 % 2) 1 || eqb (r % 2 ^ 32) 0)
+placed last code pedge= r = is_some last
+placed last code make= r = is_some last && eqb code (key_code make=)
+placed last code arm= r = in_action last
+placed last code put= r = is_some last && eqb code (key_code put=)
+placed last code drop= r = is_some last && eqb code (key_code drop=)
+placed last code cut= r = is_some last && eqb code (key_code cut=)
+placed last code group= r = is_some last && eqb code (key_code group=)
 
-unfoldable pub rule_verdict : Scheme → PackedRule → Last → Line → Verdict
+unfoldable pub rule_verdict : Scheme → PackedRule → Last → Line → Result ⊤ Refusal
 rule_verdict s r last l =
     let k = rule_key l.kind in
     let p = unpack_pattern r.pattern in
-    verdict (suc last.lines) (follows_last last l && placed last r.action.code k l.row)
+    verdict (suc last.lines) (follows_last last.line l && placed last.line (code_of r.action.operation) k l.row)
     (full (rule_form k).most (lines_above p r.action.count k)) (line_checks s p r.action.head k l.row)
 
 -- # What stands
@@ -89,15 +94,15 @@ pub record HeldRule (r : PackedRule) : Type 0 where
 
 -- a line's numbers are within the bounds of its form, and an arm line comes under a make line, whose class is one
 pub record RowFits (head : ℕ) (l : Line) : Type 0 where
-  pub kind : first_rule_kind ≤ l.kind
+  pub kind : of_drawing l.kind ≡ false
   pub tabled : Tabled l
   pub in-form : (s : Scheme) → LineInForm (rule_format s) (rule_line l)
   pub under : rule_key l.kind ≡ arm= → head < Limits.classes
 
 -- the line to be looked at is in form, and so is the last one above it
 pub record Coming (r : PackedRule) (last : Last) (l : Line) : Type 0 where
-  pub above : Tabled last.line
+  pub above : IfSome last.line Tabled
   pub few : suc last.lines < 2 ^ 64
-  pub kind : first_rule_kind ≤ l.kind
+  pub kind : of_drawing l.kind ≡ false
   pub tabled : Tabled l
-  pub row : follows_last last l ≡ true → RowFits r.action.head l
+  pub row : follows_last last.line l ≡ true → RowFits r.action.head l

@@ -1,157 +1,122 @@
 // A line of a rule text under what the lines above it hold, in an open scheme: in its place, not one too many, and then as its own checks say.
 #![tactic(auto)]
 
-ghost use Rattle.std.specs.Prelude.{◌≡◌, true, ◌&&◌, ◌<◌, ◌≤◌};
-ghost use Rattle.model.specs.InForm.{code_of};
-ghost use Rattle.forms.specs.Forms.{first_rule_kind, kind_count, rule_key};
-ghost use Rattle.text.specs.Lines.{Tabled, follows_last};
-ghost use Rattle.graph.specs.Packed.{triples_rise, scheme_of, unpack_pattern, pattern_of};
-ghost use Rattle.rule_lines.specs.RuleLines.{placed, make_kind, lines_above, rule_verdict, FitsRule, HeldRule, Coming, line_checks, RowFits};
-ghost use Rattle.verdicts.specs.Verdicts.{judged};
+ghost use Rattle.std.specs.Prelude.{◌≡◌, true, false};
+ghost use Rattle.model.specs.InForm.{code_of as key_code};
+ghost use Rattle.forms.specs.Forms.{of_drawing, rule_key};
+ghost use Rattle.graph.specs.Operations.{code_of};
+ghost use Rattle.graph.specs.Packed.{triples_rise, scheme_of, unpack_pattern};
+ghost use Rattle.rule_lines.specs.RuleLines.{in_action, placed, lines_above, rule_verdict, FitsRule, HeldRule, Coming, line_checks, RowFits};
+ghost use Rattle.verdicts.specs.Verdicts.{judged, scheme_above, pattern_above};
 
 use action_lines::{check_arm, check_cut, check_drop, check_group, check_make, check_put};
-use forms::Form;
+use forms::LineKind;
 use graph::declarations::Declarations;
 use graph::packing::{KINDS, PNODE_GIVEN};
-use graph::rule::{PackedAction, PackedRule};
+use graph::rule::{Operation, PackedRule};
 use model::Refusal;
 use pattern_lines::{check_pedge, check_pnode};
 use text::lines::{Last, Line, crowded, follows};
-use verdicts::Verdict;
+use verdicts::above::Above;
 
-// In turn and order; op comes first, an action line stands under its own code, arm after make, and a value is 0 where none is given.
-fn in_place(last: Last, code: u64, l: Line) -> bool
-    requires tabled { (Tabled last.line) × (Tabled l) }
-    requires first_rule_kind_le_kind { first_rule_kind ≤ l.kind }
-    ensures { result ≡ (follows_last last l && placed last code (rule_key l.kind) l.row) }
+// Op comes first, an action line stands under its own code, arm after make, and a value is 0 where none is given.
+fn placed(last: Option<Line>, operation: Operation, l: Line) -> bool
+    requires { of_drawing l.kind ≡ false }
+    ensures { result ≡ placed last (code_of operation) (rule_key l.kind) l.row }
 {
-    if !follows(last, l) {
-        return false;
-    }
-    let above = last.line;
-    let kind = l.kind;
-    if kind == Form::OP {
-        return true;
-    }
-    if last.lines == 0 {
-        return false;
-    }
-    if kind == Form::PNODE {
-        if l.row / PNODE_GIVEN % KINDS == 1 {
-            return true;
+    match l.kind {
+        LineKind::Op => true,
+        LineKind::Pnode => {
+            last.is_some() && (l.row / PNODE_GIVEN % KINDS == 1 || l.row % PNODE_GIVEN == 0)
         }
-        return l.row % PNODE_GIVEN == 0;
+        LineKind::Pedge => last.is_some(),
+        LineKind::Arm => in_action(last),
+        _ => last.is_some() && operation == operation_of(l.kind),
     }
-    if kind == Form::PEDGE {
-        return true;
-    }
-    if kind == Form::ARM {
-        return Form::MAKE <= above.kind;
-    }
-    code == code_of(kind)
 }
 
-// The code under which an action line stands.
-fn code_of(kind: usize) -> u64
-    requires { (make_kind ≤ kind) × (kind < kind_count) }
-    ensures { result ≡ code_of (rule_key kind) }
+// Whether the last line above is an action line.
+pub fn in_action(last: Option<Line>) -> bool
+    ensures { result ≡ in_action last }
+{
+    last.is_some_and(|above| LineKind::Make <= above.kind)
+}
+
+// The operation under whose code an action line stands.
+fn operation_of(kind: LineKind) -> Operation
+    ensures { code_of result ≡ key_code (rule_key kind) }
 {
     match kind {
-        Form::MAKE => PackedAction::NODE_ADDITION,
-        Form::ARM => PackedAction::NODE_ADDITION,
-        Form::PUT => PackedAction::EDGE_ADDITION,
-        Form::DROP => PackedAction::NODE_DELETION,
-        Form::CUT => PackedAction::EDGE_DELETION,
-        _ => PackedAction::ABSTRACTION,
+        LineKind::Make | LineKind::Arm => Operation::NodeAddition,
+        LineKind::Put => Operation::EdgeAddition,
+        LineKind::Drop => Operation::NodeDeletion,
+        LineKind::Cut => Operation::EdgeDeletion,
+        LineKind::Group => Operation::Abstraction,
+        _ => Operation::PatternOnly,
     }
 }
 
 // How many lines of the kind stand above, of those that document 01 limits.
-fn lines_above(rule: PackedRule, kind: usize) -> usize
-    requires fits_rule { FitsRule rule }
-    requires first_rule_kind_le_kind { (first_rule_kind ≤ kind) × (kind < kind_count) }
-    ensures { result ≡ lines_above (unpack_pattern rule.pattern) rule.action.count (rule_key kind) }
+fn lines_above(rule: &PackedRule, kind: LineKind) -> usize
+    requires { FitsRule rule.now }
+    ensures { result ≡ lines_above (unpack_pattern rule.now.pattern) rule.now.action.count (rule_key kind) }
 {
-    let pattern = rule.pattern;
-    let action = rule.action;
-    if kind == Form::PNODE {
-        return pattern.order;
+    match kind {
+        LineKind::Pnode => rule.pattern.order,
+        LineKind::Pedge => rule.pattern.size,
+        _ => rule.action.count,
     }
-    if kind == Form::PEDGE {
-        return pattern.size;
-    }
-    action.count
 }
 
 // Causes 3 to 5 of a line, by its kind. `head` is the row of a make line above.
-fn check_row(
-    classes: Declarations,
-    names: Declarations,
-    permitted: &[u64],
-    nodes: &[u64],
-    edges: &[u64],
-    head: u64,
-    l: Line,
-    line: u64,
-) -> Verdict
-    requires permitted_value { triples_rise permitted.now ≡ true }
-    requires edges_value { triples_rise edges.now ≡ true }
+fn check_row(above: &Above, head: u64, l: Line, line: u64) -> Result<(), Refusal>
+    requires edges_value { triples_rise above.now.edges.now ≡ true }
     requires row_fits { RowFits head l }
-    ensures { result
-        ≡ judged line
-        (line_checks (scheme_of classes names permitted.now) (pattern_of nodes.now edges.now)
-        head (rule_key l.kind) l.row) }
+    ensures { result ≡ judged line (line_checks (scheme_above above.now) (pattern_above above.now) head (rule_key l.kind) l.row) }
 {
-    let kind = l.kind;
     let row = l.row;
-    match kind {
-        Form::PNODE => check_pnode(classes, nodes, row, line),
-        Form::PEDGE => check_pedge(names, permitted, nodes, edges, row, line),
-        Form::MAKE => check_make(classes, row, line),
-        Form::ARM => check_arm(names, permitted, nodes, head, row, line),
-        Form::PUT => check_put(names, permitted, nodes, row, line),
-        Form::DROP => check_drop(nodes, row, line),
-        Form::CUT => check_cut(names, nodes, edges, row, line),
-        Form::GROUP => check_group(classes, names, permitted, nodes, row, line),
-        _ => Verdict::Passes,
+    match l.kind {
+        LineKind::Pnode => check_pnode(above.classes, above.nodes, row, line),
+        LineKind::Pedge => check_pedge(above, row, line),
+        LineKind::Make => check_make(above.classes, row, line),
+        LineKind::Arm => check_arm(above, head, row, line),
+        LineKind::Put => check_put(above, row, line),
+        LineKind::Drop => check_drop(above.nodes, row, line),
+        LineKind::Cut => check_cut(above.names, above.nodes, above.edges, row, line),
+        LineKind::Group => check_group(above, row, line),
+        _ => Ok(()),
     }
 }
 
 // A line of a rule text under what the lines above it hold.
+// Kept: a scheme's parts one by one, since a stored scheme would ask callers for a limit and for sets without gaps too.
 pub fn check_rule_line(
     classes: Declarations,
     names: Declarations,
     permitted: &[u64],
-    rule: PackedRule,
+    rule: &PackedRule,
     last: Last,
     l: Line,
-) -> Verdict
+) -> Result<(), Refusal>
     requires permitted_value { triples_rise permitted.now ≡ true }
-    requires held_rule { HeldRule rule }
-    requires coming { Coming rule last l }
-    ensures { result ≡ rule_verdict (scheme_of classes names permitted.now) rule last l }
+    requires held_rule { HeldRule rule.now }
+    requires coming { Coming rule.now last l }
+    ensures { result ≡ rule_verdict (scheme_of classes names permitted.now) rule.now last l }
 {
     let line = last.lines + 1;
-    let action = rule.action;
-    if !in_place(last, action.code, l) {
-        return Verdict::Fails(Refusal::Malformed { line });
+    if !follows(last.line, l) || !placed(last.line, rule.action.operation, l) {
+        return Err(Refusal::Malformed { line });
     }
     if crowded(l.kind, lines_above(rule, l.kind)) {
-        return Verdict::Fails(Refusal::TooMany { line });
+        return Err(Refusal::TooMany { line });
     }
-    let pattern = rule.pattern;
-    let nodes = pattern.nodes;
-    let order = pattern.order;
-    let edges = pattern.edges;
-    let size = pattern.size;
-    check_row(
+    let pattern = &rule.pattern;
+    let above = Above {
         classes,
         names,
         permitted,
-        &nodes[..order],
-        &edges[..size],
-        action.head,
-        l,
-        line,
-    )
+        nodes: &pattern.nodes[..pattern.order],
+        edges: &pattern.edges[..pattern.size],
+    };
+    check_row(&above, rule.action.head, l, line)
 }

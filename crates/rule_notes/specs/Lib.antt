@@ -1,3 +1,2 @@
--- What a rule notes, and laws of it.
+-- What a rule notes.
 pub mod Noted
-pub mod Laws

@@ -1,44 +1,29 @@
 -- Rule texts: what a line adds to what the lines above it hold, and what a text holds.
-use Rattle.std.specs.Prelude.{ℕ, ◌≤◌, ◌<◌, ◌≡◌, Bool, true, false, ◌&&◌, ◌||◌, List, [], ◌∷◌, ◌++◌, take, eqb, ltb, leb}
+use Rattle.std.specs.Prelude.{ℕ, ◌<◌, ◌≡◌, Bool, false, ◌&&◌, ◌||◌, List, [], ◌∷◌, ◌++◌, take, eqb, Option}
+use Rattle.std.specs.Option.{is_some}
 use Rattle.model.specs.Limits
 use Rattle.model.specs.Files.RuleText.{RuleKey, op=, pnode=, pedge=, make=, arm=, put=, drop=, cut=, group=}
-use Rattle.forms.specs.Forms.{first_rule_kind, rule_key}
-use Rattle.text.specs.Lines.{Tabled}
+use Rattle.forms.specs.Forms.{of_drawing, rule_key}
 use Rattle.text.specs.declared.lines.Line.{Line}
-use Rattle.text.specs.declared.lines.Last.{Last}
 use Rattle.graph.specs.declared.rule.PackedRule.{PackedRule}
-use Rattle.verdicts.specs.declared.Answer.{Answer}
-use Rattle.rule_lines.specs.RuleLines.{make_kind, nodes_in, edges_in, FitsRule}
-use Rattle.rules.specs.declared.RuleRead.{RuleRead}
+use Rattle.graph.specs.Operations.{code_of}
+use Rattle.rule_lines.specs.RuleLines.{in_action, nodes_in, edges_in, FitsRule}
 
 -- # What a line adds
-abbrev pub HasRoomFor : PackedRule → RuleKey → Type 0
-HasRoomFor r op= = Unit {0}
-HasRoomFor r pnode= = r.pattern.order < Limits.pattern_nodes
-HasRoomFor r pedge= = r.pattern.size < Limits.pattern_edges
-HasRoomFor r make= = Unit {0}
-HasRoomFor r arm= = r.action.count < Limits.puts
-HasRoomFor r put= = r.action.count < Limits.puts
-HasRoomFor r drop= = Unit {0}
-HasRoomFor r cut= = r.action.count < Limits.puts
-HasRoomFor r group= = Unit {0}
+abbrev pub HasRoomFor : PackedRule → RuleKey → (row : ℕ) → Type 0
+HasRoomFor r op= x = x < 6
+HasRoomFor r pnode= x = r.pattern.order < Limits.pattern_nodes
+HasRoomFor r pedge= x = r.pattern.size < Limits.pattern_edges
+HasRoomFor r make= x = Unit {0}
+HasRoomFor r arm= x = r.action.count < Limits.puts
+HasRoomFor r put= x = r.action.count < Limits.puts
+HasRoomFor r drop= x = Unit {0}
+HasRoomFor r cut= x = r.action.count < Limits.puts
+HasRoomFor r group= x = Unit {0}
 
 pub record Room (r : PackedRule) (l : Line) : Type 0 where
-  pub kind : first_rule_kind ≤ l.kind
-  pub tabled : Tabled l
-  pub room : HasRoomFor r (rule_key l.kind)
-
--- an action line of which there may be several
-unfoldable pub has_parts : RuleKey → Bool
-has_parts op= = false
-has_parts pnode= = false
-has_parts pedge= = false
-has_parts make= = false
-has_parts arm= = true
-has_parts put= = true
-has_parts drop= = false
-has_parts cut= = true
-has_parts group= = false
+  pub kind : of_drawing l.kind ≡ false
+  pub room : HasRoomFor r (rule_key l.kind) l.row
 
 -- what stands, by the kinds of lines that made it
 pub record Parts : Type 0 where
@@ -52,7 +37,7 @@ abbrev pub parts_in : PackedRule → List ℕ
 parts_in r = take r.action.count r.action.parts
 
 abbrev pub parts_of : PackedRule → Parts
-parts_of r = record { code = r.action.code; nodes = nodes_in r; edges = edges_in r; head = r.action.head; parts = parts_in r }
+parts_of r = record { code = code_of r.action.operation; nodes = nodes_in r; edges = edges_in r; head = r.action.head; parts = parts_in r }
 
 abbrev with_head : Parts → ℕ → Parts
 with_head t x = record { code = t.code; nodes = t.nodes; edges = t.edges; head = x; parts = t.parts }
@@ -77,8 +62,5 @@ pub record KeptRule (r : PackedRule) (l : Line) (r' : PackedRule) : Type 0 where
 
 -- # What a text holds
 -- code 0, or an action line, which comes after the pedge lines
-unfoldable pub is_complete : Last → (code : ℕ) → Bool
-is_complete last code = ltb 0 last.lines && (eqb code 0 || leb make_kind last.line.kind)
-
-abbrev pub read_as : Answer → PackedRule → RuleRead
-read_as answer rule = record { answer = answer; rule = rule }
+unfoldable pub is_complete : Option Line → (code : ℕ) → Bool
+is_complete last code = is_some last && (eqb code 0 || in_action last)

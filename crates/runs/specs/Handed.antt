@@ -1,11 +1,32 @@
 -- A list of calls handed over as slices: kinds, texts one after another, and for each call the bound at which its text ends. Any slices mean a list.
-use Rattle.std.specs.Prelude.{ℕ, ◌-◌, ◌/◌, Bool, cond, ◌&&◌, List, [], ◌∷◌, ◌++◌, length, get_or, take, drop, leb, ltb}
+use Rattle.std.specs.Prelude.{ℕ, ◌-◌, ◌/◌, ◌≡◌, ◌≤◌, Bool, cond, ◌&&◌, List, [], ◌∷◌, ◌++◌, length, get_or, take, drop, leb, ltb, Result, MatchResult}
 use Rattle.model.specs.Refusals.{Outcome, accepted, refused, table_row}
 use Rattle.model.specs.Record.{Call, Open, Apply, Undo, Close, Report, report_numbers}
+use Rattle.runs.specs.declared.Kind.{Kind}
+use Rattle.runs.specs.declared.Kind.TheVariants as kind
+use Rattle.runs.specs.declared.UnknownKind.{UnknownKind}
 
 -- how many kinds of call change the session
 abbrev pub kind_count : ℕ
 kind_count = 4
+
+-- the number of a kind
+abbrev pub number_of : Kind → ℕ
+number_of kind.Open = 0
+number_of kind.Apply = 1
+number_of kind.Undo = 2
+number_of kind.Close = 3
+
+-- the kind that has the number, or an error with a number that no kind has
+abbrev pub Decodes : ℕ → Result Kind UnknownKind → Type 0
+Decodes number r = MatchResult r (λ k. number_of k ≡ number) (λ e. (e.0 ≡ number) × (kind_count ≤ number))
+
+-- a call of a kind
+abbrev pub call_for : Kind → (text : List ℕ) → Call
+call_for kind.Open text = Open text
+call_for kind.Apply text = Apply text
+call_for kind.Undo text = Undo
+call_for kind.Close text = Close
 
 -- 0 open, 1 apply, 2 undo, 3 close
 unfoldable pub call_of : (kind : ℕ) (text : List ℕ) → Call

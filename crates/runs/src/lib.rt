@@ -4,24 +4,43 @@
 ghost use Rattle.std.specs.Prelude.{◌≡◌, ◌+◌, ◌≤◌, length};
 ghost use Rattle.lists.specs.Buffers.{WritesFrom};
 ghost use Rattle.model.specs.Refusals.{refused};
-ghost use Rattle.model.specs.Record.{Open, Apply, Undo, Close};
-ghost use Rattle.model.specs.Answers.{open_answer, apply_answer, undo_answer, close_answer};
+ghost use Rattle.model.specs.Answers.{open_answer, apply_answer, step_answer};
 ghost use Rattle.session.specs.Sessions.{StoredSession};
-ghost use Rattle.runs.specs.Handed.{call_of, is_call, calls_in, six_numbers, answer_room};
+ghost use Rattle.runs.specs.Handed.{call_for, call_of, is_call, calls_in, six_numbers, answer_room, Decodes};
 ghost use Rattle.runs.specs.Runs.{Performs, Runs, goes_on, Answered};
 
 use calls::{apply_value, close_value, open_value, undo_value};
-use model::{ApplyAnswer, CloseAnswer, OpenAnswer, Refusal, UndoAnswer};
+use model::{ApplyAnswer, OpenAnswer, Refusal, StepAnswer};
 use session::Session;
 
-// The kinds of call that change the session.
-pub const OPEN: u8 = 0;
+// The kinds of call that change the session, in the order of their numbers.
+#[derive(Clone, Copy, PartialEq, Eq)]
+pub enum Kind {
+    Open,
+    Apply,
+    Undo,
+    Close,
+}
 
-pub const APPLY: u8 = 1;
+// A number that is no kind's.
+#[derive(Clone, Copy, PartialEq, Eq)]
+pub struct UnknownKind(pub u8);
 
-pub const UNDO: u8 = 2;
+impl TryFrom<u8> for Kind {
+    type Error = UnknownKind;
 
-pub const CLOSE: u8 = 3;
+    ghost try_from_gives = { Decodes };
+
+    fn try_from(number: u8) -> Result<Self, UnknownKind> {
+        match number {
+            0 => Ok(Kind::Open),
+            1 => Ok(Kind::Apply),
+            2 => Ok(Kind::Undo),
+            3 => Ok(Kind::Close),
+            _ => Err(UnknownKind(number)),
+        }
+    }
+}
 
 // How many numbers an answer takes.
 pub const NUMBERS: usize = 6;
@@ -40,143 +59,102 @@ pub struct Ran {
     pub calls: usize,
 }
 
+#[tactic(auto, unfolding(crate::specs::Handed::six_numbers))]
 fn refused_numbers(refusal: Refusal) -> [u64; NUMBERS]
     ensures { result ≡ six_numbers (refused refusal) }
 {
-    [table::number(refusal), table::returned(refusal), 0, 0, 0, 0]
+    let row = table::row(refusal);
+    [row.number, row.returned, 0, 0, 0, 0]
 }
 
+// Kept: a function for each report, since the proof of `make` did not close over closures that `map` or one generic function was given.
+#[tactic(auto, unfolding(crate::specs::Handed::six_numbers))]
 fn open_numbers(answer: OpenAnswer) -> [u64; NUMBERS]
     ensures { result ≡ six_numbers (open_answer answer) }
 {
     match answer {
-        OpenAnswer::Opened { classes, names } => [0, classes, names, 0, 0, 0],
-        OpenAnswer::Refused(refusal) => refused_numbers(refusal),
+        Ok(opened) => [0, opened.classes, opened.names, 0, 0, 0],
+        Err(refusal) => refused_numbers(refusal),
     }
 }
 
+#[tactic(auto, unfolding(crate::specs::Handed::six_numbers))]
 fn apply_numbers(answer: ApplyAnswer) -> [u64; NUMBERS]
     ensures { result ≡ six_numbers (apply_answer answer) }
 {
     match answer {
-        ApplyAnswer::Applied(counts) => {
-            let added = counts.added;
-            let removed = counts.removed;
-            [
-                0,
-                counts.matchings,
-                added.nodes,
-                added.edges,
-                removed.nodes,
-                removed.edges,
-            ]
+        Ok(counts) => [
+            0,
+            counts.matchings,
+            counts.added.nodes,
+            counts.added.edges,
+            counts.removed.nodes,
+            counts.removed.edges,
+        ],
+        Err(refusal) => refused_numbers(refusal),
+    }
+}
+
+#[tactic(auto, unfolding(crate::specs::Handed::six_numbers))]
+fn step_numbers(answer: StepAnswer) -> [u64; NUMBERS]
+    ensures { result ≡ six_numbers (step_answer answer) }
+{
+    match answer {
+        Ok(()) => [0; NUMBERS],
+        Err(refusal) => refused_numbers(refusal),
+    }
+}
+
+// One call.
+pub fn make(session: Session, kind: Kind, text: &[u8]) -> Performed
+    requires { StoredSession session }
+    ensures { Performs (call_for kind text.now) session result }
+{
+    match kind {
+        Kind::Open => {
+            let left = open_value(session, text);
+            Performed {
+                numbers: open_numbers(left.answer),
+                session: left.session,
+            }
         }
-        ApplyAnswer::Refused(refusal) => refused_numbers(refusal),
+        Kind::Apply => {
+            let left = apply_value(session, text);
+            Performed {
+                numbers: apply_numbers(left.answer),
+                session: left.session,
+            }
+        }
+        Kind::Undo => {
+            let left = undo_value(session);
+            Performed {
+                numbers: step_numbers(left.answer),
+                session: left.session,
+            }
+        }
+        Kind::Close => {
+            let left = close_value(session);
+            Performed {
+                numbers: step_numbers(left.answer),
+                session: left.session,
+            }
+        }
     }
 }
 
-fn undo_numbers(answer: UndoAnswer) -> [u64; NUMBERS]
-    ensures { result ≡ six_numbers (undo_answer answer) }
-{
-    match answer {
-        UndoAnswer::Undone => [0; NUMBERS],
-        UndoAnswer::Refused(refusal) => refused_numbers(refusal),
-    }
-}
-
-fn close_numbers(answer: CloseAnswer) -> [u64; NUMBERS]
-    ensures { result ≡ six_numbers (close_answer answer) }
-{
-    match answer {
-        CloseAnswer::Closed => [0; NUMBERS],
-        CloseAnswer::Refused(refusal) => refused_numbers(refusal),
-    }
-}
-
-fn perform_open(session: Session, text: &[u8]) -> Performed
-    requires { StoredSession session }
-    ensures { Performs (Open text.now) session result }
-{
-    let left = open_value(session, text);
-    let after = left.session;
-    let answer = left.answer;
-    let numbers = open_numbers(answer);
-    Performed {
-        numbers,
-        session: after,
-    }
-}
-
-fn perform_apply(session: Session, text: &[u8]) -> Performed
-    requires { StoredSession session }
-    ensures { Performs (Apply text.now) session result }
-{
-    let left = apply_value(session, text);
-    let after = left.session;
-    let answer = left.answer;
-    let numbers = apply_numbers(answer);
-    Performed {
-        numbers,
-        session: after,
-    }
-}
-
-fn perform_undo(session: Session) -> Performed
-    requires { StoredSession session }
-    ensures { Performs Undo session result }
-{
-    let left = undo_value(session);
-    let after = left.session;
-    let answer = left.answer;
-    let numbers = undo_numbers(answer);
-    Performed {
-        numbers,
-        session: after,
-    }
-}
-
-fn perform_close(session: Session) -> Performed
-    requires { StoredSession session }
-    ensures { Performs Close session result }
-{
-    let left = close_value(session);
-    let after = left.session;
-    let answer = left.answer;
-    let numbers = close_numbers(answer);
-    Performed {
-        numbers,
-        session: after,
-    }
-}
-
-// One call, by its kind; every kind past the last is taken for close.
+// One call, by its kind's number; every number past the last is taken for close.
 pub fn perform(session: Session, kind: u8, text: &[u8]) -> Performed
     requires { StoredSession session }
     ensures { Performs (call_of kind text.now) session result }
 {
-    if kind == OPEN {
-        return perform_open(session, text);
-    }
-    if kind == APPLY {
-        return perform_apply(session, text);
-    }
-    if kind == UNDO {
-        return perform_undo(session);
-    }
-    perform_close(session)
+    make(session, Kind::try_from(kind).unwrap_or(Kind::Close), text)
 }
 
 // Whether an entry is a call.
 fn is_call(kind: u8, from: usize, end: usize, texts: usize) -> bool
     ensures { result ≡ is_call kind from end texts }
 {
-    if CLOSE < kind {
-        return false;
-    }
-    if end < from {
-        return false;
-    }
-    end <= texts
+    Kind::try_from(kind).is_ok() && from <= end && end <= texts
 }
 
 // Writes an answer's numbers at the place of the answer.
@@ -184,27 +162,15 @@ fn put_numbers(answers: &mut [u64], from: usize, numbers: [u64; NUMBERS])
     requires { from + answer_room ≤ length answers.old }
     ensures { WritesFrom numbers from answers.old (from + answer_room) answers.new }
 {
-    let mut i: usize = 0;
-    while i < NUMBERS {
-        answers[from + i] = numbers[i];
-        i += 1;
-    }
+    answers[from..from + NUMBERS].copy_from_slice(&numbers);
 }
 
 // Whether entry i is a call, and there is room for its answer.
+#[tactic(auto, unfolding(crate::specs::Runs::goes_on))]
 fn goes_on(kinds: &[u8], bounds: &[usize], texts: usize, room: usize, from: usize, i: usize) -> bool
     ensures { result ≡ goes_on kinds.now bounds.now texts room from i }
 {
-    if kinds.len() <= i {
-        return false;
-    }
-    if bounds.len() <= i {
-        return false;
-    }
-    if room <= i {
-        return false;
-    }
-    is_call(kinds[i], from, bounds[i], texts)
+    i < kinds.len() && i < bounds.len() && i < room && is_call(kinds[i], from, bounds[i], texts)
 }
 
 // One call, with its answer written from a place on.
@@ -214,8 +180,7 @@ fn answer_call(session: Session, kind: u8, text: &[u8], answers: &mut [u64], fro
     ensures { Answered (call_of kind text.now) session from answers.old result answers.new }
 {
     let performed = perform(session, kind, text);
-    let numbers = performed.numbers;
-    put_numbers(answers, from, numbers);
+    put_numbers(answers, from, performed.numbers);
     performed.session
 }
 
@@ -234,10 +199,10 @@ pub fn run_calls(
     let mut current = session;
     let mut from: usize = 0;
     let mut i: usize = 0;
+    // Kept: one index goes over three slices, any of which may end first; over a `zip` of them the test of each entry would stand beside a count.
     while goes_on(kinds, bounds, texts.len(), answers.len() / NUMBERS, from, i) {
         let end = bounds[i];
-        let after = answer_call(current, kinds[i], &texts[from..end], answers, i * NUMBERS);
-        current = after;
+        current = answer_call(current, kinds[i], &texts[from..end], answers, i * NUMBERS);
         from = end;
         i += 1;
     }

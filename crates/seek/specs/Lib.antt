@@ -1,3 +1,2 @@
--- What a search finds, and laws.
-pub mod Seeks
+-- Laws of the search for the first matching.
 pub mod Laws

@@ -8,6 +8,7 @@ use graph::instance::PackedInstance;
 use graph::scheme::PackedScheme;
 
 // Shut, or open with scheme, instance and copies.
+// Kept: a flag beside what it rules, since C lays out and reads the session, and no enum crosses that border.
 #[repr(C)]
 #[derive(Clone, Copy)]
 pub struct Session {

@@ -1,47 +1,37 @@
--- What the lines of a drawing file hold, and what a further line adds to that.
-use Rattle.std.specs.Prelude.{ℕ, ◌/◌, ◌%◌, ◌≤◌, ◌<◌, ◌≡◌, true, List, [], ◌∷◌, ◌++◌, map, length, take, ltb}
+-- The drawing that the lines of a file make, and what a further line adds to it.
+use Rattle.std.specs.Prelude.{ℕ, ◌/◌, ◌%◌, ◌≤◌, ◌<◌, ◌≡◌, true, List, [], ◌∷◌, ◌++◌, map, length, ltb}
 use Rattle.lists.specs.Lists.{all}
 use Rattle.lists.specs.Order.{rising}
 use Rattle.model.specs.Limits
 use Rattle.model.specs.Graph.{Declared, Scheme, Instance, row, nodes_rise}
 use Rattle.model.specs.Files.DrawingFile.{DrawingKey, class=, name=, may=, node=, edge=}
-use Rattle.forms.specs.Forms.{first_rule_kind, drawing_key}
+use Rattle.forms.specs.Forms.{of_drawing, drawing_key}
 use Rattle.text.specs.declared.lines.Line.{Line}
-use Rattle.graph.specs.Packed.{unpack_triple, unpack_node, unpack_declared, scheme_of, instance_of, Snug}
-use Rattle.standing.specs.declared.Standing.{Standing}
+use Rattle.graph.specs.Packed.{unpack_triple, unpack_node, unpack_declared, unpack_scheme, unpack_instance, Snug}
+use Rattle.standing.specs.declared.Drawing.{Drawing}
 
 -- # What stands
-abbrev pub scheme_held : Standing → (permitted : List ℕ) → Scheme
-scheme_held t permitted = scheme_of t.classes t.names (take t.permissions permitted)
-
-abbrev pub instance_held : Standing → (nodes edges : List ℕ) → Instance
-instance_held t nodes edges = instance_of (take t.order nodes) (take t.size edges)
-
 -- the arrays have the limits' lengths, and no more stands in them
-pub record Fits (t : Standing) (permitted nodes edges : List ℕ) : Type 0 where
-  pub permitted_room : length permitted ≡ Limits.permitted
-  pub nodes_room : length nodes ≡ Limits.nodes
-  pub edges_room : length edges ≡ Limits.edges
-  pub permissions : t.permissions ≤ Limits.permitted
-  pub order : t.order ≤ Limits.nodes
-  pub size : t.size ≤ Limits.edges
-  pub classes : Snug t.classes
-  pub names : Snug t.names
+pub record Fits (d : Drawing) : Type 0 where
+  pub permitted_room : length d.scheme.permitted ≡ Limits.permitted
+  pub nodes_room : length d.instance.nodes ≡ Limits.nodes
+  pub edges_room : length d.instance.edges ≡ Limits.edges
+  pub permissions : d.scheme.permissions ≤ Limits.permitted
+  pub order : d.instance.order ≤ Limits.nodes
+  pub size : d.instance.size ≤ Limits.edges
+  pub classes : Snug d.scheme.classes
+  pub names : Snug d.scheme.names
 
 -- and what stands can be searched by halving
-pub record Held (t : Standing) (permitted nodes edges : List ℕ) : Type 0 where
-  pub fits : Fits t permitted nodes edges
-  pub triples : rising (map row (scheme_held t permitted).permitted) ≡ true
-  pub numbers : nodes_rise (instance_held t nodes edges) ≡ true
+pub record Held (d : Drawing) : Type 0 where
+  pub fits : Fits d
+  pub triples : rising (map row (unpack_scheme d.scheme).permitted) ≡ true
+  pub numbers : nodes_rise (unpack_instance d.instance) ≡ true
 
-pub record FreshStanding (t : Standing) : Type 0 where
-  pub scheme : (permitted : List ℕ) → scheme_held t permitted ≡ record { classes = []; names = []; permitted = [] }
-  pub instance : (nodes edges : List ℕ) → instance_held t nodes edges ≡ record { nodes = []; edges = [] }
-  pub permissions : t.permissions ≡ 0
-  pub order : t.order ≡ 0
-  pub size : t.size ≡ 0
-  pub classes : Snug t.classes
-  pub names : Snug t.names
+pub record FreshDrawing (d : Drawing) : Type 0 where
+  pub scheme : unpack_scheme d.scheme ≡ record { classes = []; names = []; permitted = [] }
+  pub instance : unpack_instance d.instance ≡ record { nodes = []; edges = [] }
+  pub fits : Fits d
 
 -- # What a line adds
 abbrev declared : (row : ℕ) → Declared
@@ -65,18 +55,18 @@ instance_with d edge= r = record { nodes = d.nodes; edges = d.edges ++ (unpack_t
 abbrev IsAbove : List Declared → (row : ℕ) → Type 0
 IsAbove ds r = (r / 2 < Limits.classes) × (all (λ d. ltb d.number (r / 2)) ds ≡ true)
 
-abbrev HasRoomFor : Standing → DrawingKey → (row : ℕ) → Type 0
-HasRoomFor t class= r = IsAbove (unpack_declared t.classes) r
-HasRoomFor t name= r = IsAbove (unpack_declared t.names) r
-HasRoomFor t may= r = t.permissions < Limits.permitted
-HasRoomFor t node= r = t.order < Limits.nodes
-HasRoomFor t edge= r = t.size < Limits.edges
+abbrev HasRoomFor : Drawing → DrawingKey → (row : ℕ) → Type 0
+HasRoomFor d class= r = IsAbove (unpack_declared d.scheme.classes) r
+HasRoomFor d name= r = IsAbove (unpack_declared d.scheme.names) r
+HasRoomFor d may= r = d.scheme.permissions < Limits.permitted
+HasRoomFor d node= r = d.instance.order < Limits.nodes
+HasRoomFor d edge= r = d.instance.size < Limits.edges
 
-pub record Room (t : Standing) (l : Line) : Type 0 where
-  pub kind : l.kind < first_rule_kind
-  pub room : HasRoomFor t (drawing_key l.kind) l.row
+pub record Room (d : Drawing) (l : Line) : Type 0 where
+  pub kind : of_drawing l.kind ≡ true
+  pub room : HasRoomFor d (drawing_key l.kind) l.row
 
-pub record KeptLine (t : Standing) (l : Line) (permitted nodes edges : List ℕ) (r : Standing) (permitted' nodes' edges' : List ℕ) : Type 0 where
-  pub fits : Fits r permitted' nodes' edges'
-  pub scheme : scheme_held r permitted' ≡ scheme_with (scheme_held t permitted) (drawing_key l.kind) l.row
-  pub instance : instance_held r nodes' edges' ≡ instance_with (instance_held t nodes edges) (drawing_key l.kind) l.row
+pub record KeptLine (d : Drawing) (l : Line) (r : Drawing) : Type 0 where
+  pub fits : Fits r
+  pub scheme : unpack_scheme r.scheme ≡ scheme_with (unpack_scheme d.scheme) (drawing_key l.kind) l.row
+  pub instance : unpack_instance r.instance ≡ instance_with (unpack_instance d.instance) (drawing_key l.kind) l.row

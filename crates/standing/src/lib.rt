@@ -1,71 +1,58 @@
-// What the lines of a drawing file hold, and what stands with a further line: keys stand in arrays that are lent, as many as are counted.
+// The drawing that the lines of a file make, and what a further line adds to it.
 #![tactic(auto)]
 
-ghost use Rattle.standing.specs.Held.{FreshStanding, Fits, Room, KeptLine};
+ghost use Rattle.standing.specs.Held.{FreshDrawing, Fits, Room, KeptLine};
 
-use forms::Form;
-use graph::declarations::Declarations;
+use forms::LineKind;
+use graph::instance::PackedInstance;
 use graph::packing::KINDS;
+use graph::scheme::PackedScheme;
 use text::lines::Line;
 
-// What the lines above hold, but for the keys, which stand in arrays: declared classes and names, and how many keys there are of each sort.
+// A scheme, and an instance of it.
 #[derive(Clone, Copy)]
-pub struct Standing {
-    pub classes: Declarations,
-    pub names: Declarations,
-    pub permissions: usize,
-    pub order: usize,
-    pub size: usize,
+pub struct Drawing {
+    pub scheme: PackedScheme,
+    pub instance: PackedInstance,
 }
 
-impl Standing {
-    pub fn new() -> Standing
-        ensures { FreshStanding result }
+impl Drawing {
+    pub fn new() -> Drawing
+        ensures { FreshDrawing result }
     {
-        Standing {
-            classes: Declarations::new(),
-            names: Declarations::new(),
-            permissions: 0,
-            order: 0,
-            size: 0,
+        Drawing {
+            scheme: PackedScheme::new(),
+            instance: PackedInstance::new(),
         }
     }
-}
 
-// What stands with a line that passes.
-pub fn keep_line(
-    standing: Standing,
-    permitted: &mut [u64],
-    nodes: &mut [u64],
-    edges: &mut [u64],
-    l: Line,
-) -> Standing
-    requires fits { Fits standing permitted.old nodes.old edges.old }
-    requires room { Room standing l }
-    ensures { KeptLine standing l permitted.old nodes.old edges.old result permitted.new nodes.new
-        edges.new }
-{
-    let mut next = standing;
-    let kind = l.kind;
-    let row = l.row;
-    if kind == Form::CLASS {
-        let classes = standing.classes.with(row / KINDS, row % KINDS);
-        next.classes = classes;
-    } else if kind == Form::NAME {
-        let names = standing.names.with(row / KINDS, row % KINDS);
-        next.names = names;
-    } else if kind == Form::MAY {
-        let place = standing.permissions;
-        permitted[place] = row;
-        next.permissions = place + 1;
-    } else if kind == Form::NODE {
-        let place = standing.order;
-        nodes[place] = row;
-        next.order = place + 1;
-    } else {
-        let place = standing.size;
-        edges[place] = row;
-        next.size = place + 1;
+    // Adds what a line that passes says.
+    pub fn keep(&mut self, line: Line)
+        requires fits { Fits self.old }
+        requires room { Room self.old line }
+        ensures { KeptLine self.old line self.new }
+    {
+        let row = line.row;
+        match line.kind {
+            LineKind::Class => {
+                self.scheme.classes = self.scheme.classes.with(row / KINDS, row % KINDS);
+            }
+            LineKind::Name => {
+                self.scheme.names = self.scheme.names.with(row / KINDS, row % KINDS);
+            }
+            LineKind::May => {
+                self.scheme.permitted[self.scheme.permissions] = row;
+                self.scheme.permissions += 1;
+            }
+            LineKind::Node => {
+                self.instance.nodes[self.instance.order] = row;
+                self.instance.order += 1;
+            }
+            // An edge line: a drawing file has no other.
+            _ => {
+                self.instance.edges[self.instance.size] = row;
+                self.instance.size += 1;
+            }
+        }
     }
-    next
 }

@@ -10,13 +10,10 @@ fn main(rt: HostRuntime) -> io::Result<()> {
     let drawing = files::load(&rt, b"job.txt", &mut job);
     let mut rule = rule_room();
     let action = files::load(&rt, b"rule.txt", &mut rule);
-    if !drawing.readable {
-        return Ok(());
-    }
-    if !action.readable {
-        return Ok(());
-    }
+    let (Some(drawing), Some(action)) = (drawing, action) else {
+        return Ok(())
+    };
     let mut text = [0u8; PRINTED];
-    let length = write_trial(&job[..drawing.length], &rule[..action.length], &mut text);
+    let length = write_trial(&job[..drawing], &rule[..action], &mut text);
     rt.write_all(&text[..length])
 }

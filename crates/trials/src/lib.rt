@@ -9,7 +9,7 @@ ghost use Rattle.session.specs.Sessions.{unpack_session, StoredSession};
 ghost use Rattle.trials.specs.Trials.{most_of_done, most_of_trial, refused_text, counts_text, applied_text, apply_text};
 
 use calls::{apply_value, open_value};
-use model::{ApplyAnswer, Counts, OpenAnswer, Refusal, SaveAnswer};
+use model::{Counts, Refusal};
 use printing::write_line;
 use queries::save_value;
 use session::Session;
@@ -23,6 +23,7 @@ const RULE: usize = 465;
 pub const PRINTED: usize = 20142;
 
 // Room for as much of a drawing file as decides.
+// Kept: two functions, since each says that its length is the definition's, which one function over a const parameter could not.
 pub fn job_room() -> [u8; JOB]
     ensures { length result ≡ enough_of_drawing }
 {
@@ -41,10 +42,8 @@ fn write_refused(refusal: Refusal, out: &mut [u8]) -> usize
     requires { most_of_trial ≤ length out.old }
     ensures { Writes (refused_text refusal) out.old result out.new }
 {
-    let number = table::number(refusal);
-    let returned = table::returned(refusal);
-    let numbers = [number, returned];
-    write_line(out, b"refused", &numbers)
+    let row = table::row(refusal);
+    write_line(out, b"refused", &[row.number, row.returned])
 }
 
 // "`done=` with the five counts"
@@ -52,14 +51,12 @@ fn write_counts(counts: Counts, out: &mut [u8]) -> usize
     requires { most_of_trial ≤ length out.old }
     ensures { Writes (counts_text counts) out.old result out.new × (result ≤ most_of_done) }
 {
-    let added = counts.added;
-    let removed = counts.removed;
     let numbers = [
         counts.matchings,
-        added.nodes,
-        added.edges,
-        removed.nodes,
-        removed.edges,
+        counts.added.nodes,
+        counts.added.edges,
+        counts.removed.nodes,
+        counts.removed.edges,
     ];
     write_line(out, b"done", &numbers)
 }
@@ -70,11 +67,7 @@ fn write_saved(session: Session, out: &mut [u8]) -> usize
     requires most_of_drawing_in_bounds { most_of_drawing ≤ length out.old }
     ensures { Writes (saved_file (unpack_session session)) out.old result out.new × (result ≤ most_of_drawing) }
 {
-    let answer = save_value(session, out);
-    match answer {
-        SaveAnswer::Saved { length } => length as usize,
-        SaveAnswer::Refused(_) => 0,
-    }
+    save_value(session, out).unwrap_or(0) as usize
 }
 
 fn write_applied(session: Session, counts: Counts, out: &mut [u8]) -> usize
@@ -91,12 +84,10 @@ fn write_apply(session: Session, rule: &[u8], out: &mut [u8]) -> usize
     requires most_of_trial_in_bounds { most_of_trial ≤ length out.old }
     ensures { Writes (apply_text (unpack_session session) rule.now) out.old result out.new }
 {
-    let applied = apply_value(session, rule);
-    let after = applied.session;
-    let answer = applied.answer;
-    match answer {
-        ApplyAnswer::Applied(counts) => write_applied(after, counts, out),
-        ApplyAnswer::Refused(refusal) => write_refused(refusal, out),
+    let left = apply_value(session, rule);
+    match left.answer {
+        Ok(counts) => write_applied(left.session, counts, out),
+        Err(refusal) => write_refused(refusal, out),
     }
 }
 
@@ -104,14 +95,9 @@ pub fn write_trial(job: &[u8], rule: &[u8], out: &mut [u8]) -> usize
     requires { most_of_trial ≤ length out.old }
     ensures { Writes (trial job.now rule.now) out.old result out.new }
 {
-    let opened = open_value(Session::new(), job);
-    let session = opened.session;
-    let answer = opened.answer;
-    match answer {
-        OpenAnswer::Opened {
-            classes: _,
-            names: _,
-        } => write_apply(session, rule, out),
-        OpenAnswer::Refused(refusal) => write_refused(refusal, out),
+    let left = open_value(Session::new(), job);
+    match left.answer {
+        Ok(_) => write_apply(left.session, rule, out),
+        Err(refusal) => write_refused(refusal, out),
     }
 }

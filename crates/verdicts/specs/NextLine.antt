@@ -1,17 +1,9 @@
 -- The next line of a text: what the text's lines are from there on.
-use Rattle.std.specs.Prelude.{ℕ, ◌≤◌, ◌<◌, ◌≡◌, List, ◌∷◌, length, drop}
-use Rattle.std.proofs.Math.Option.{Option, none, some}
+use Rattle.std.specs.Prelude.{ℕ, ◌+◌, ◌≤◌, ◌<◌, ◌≡◌, List, ◌∷◌, length, take, drop, Option, None, Some}
 use Rattle.lists.specs.Text.{pieces}
-use Rattle.model.specs.Graph.{Scheme}
 use Rattle.model.specs.Files.{Line, Format, lines_of}
-use Rattle.model.specs.Files.DrawingFile.{drawing_format}
-use Rattle.model.specs.Files.RuleText.{rule_format}
 use Rattle.model.specs.InForm.{LineInForm}
-use Rattle.forms.specs.Forms.{first_rule_kind}
-use Rattle.text.specs.Lines.{drawing_line, rule_line, Tabled}
-use Rattle.text.specs.declared.lines.Line.{Line as PackedLine}
-use Rattle.verdicts.specs.declared.lines.Next.{Next}
-use Rattle.verdicts.specs.declared.lines.Next.TheVariants as the-next
+use Rattle.numerals.specs.Scan.{up_to}
 
 module _ {K : Type 0} (f : Format K) where
   -- the lines of what is left of a text
@@ -20,7 +12,7 @@ module _ {K : Type 0} (f : Format K) where
 
   -- the line stands at a place of the text, and what follows it begins at another
   pub record LineAt (text : List ℕ) (at : ℕ) (l : Line K) (next : ℕ) : Type 0 where
-    pub line : lines_from text at ≡ some l ∷ lines_from text next
+    pub line : lines_from text at ≡ Some l ∷ lines_from text next
     pub in-form : LineInForm f l
     pub later : at < next
     pub within : next ≤ length text
@@ -28,14 +20,13 @@ module _ {K : Type 0} (f : Format K) where
   -- the line at a place is out of form
   pub record NoLineAt (text : List ℕ) (at : ℕ) : Type 0 where
     pub rest : List (Option (Line K))
-    pub line : lines_from text at ≡ none ∷ rest
+    pub line : lines_from text at ≡ None ∷ rest
 
-pub record NextDrawingLine (text : List ℕ) (at : ℕ) (r : Next) : Type 0 where
-  pub line : (l : PackedLine) (next : ℕ) → r ≡ the-next.Line l next → LineAt drawing_format text at (drawing_line l) next
-  pub tabled : (l : PackedLine) (next : ℕ) → r ≡ the-next.Line l next → Tabled l × (l.kind < first_rule_kind)
-  pub malformed : r ≡ the-next.Malformed → NoLineAt drawing_format text at
+-- no byte 10 ends what is left of a text
+abbrev pub Unended : List ℕ → ℕ → Type 0
+Unended text at = up_to 10 (drop at text) ≡ length (drop at text)
 
-pub record NextRuleLine (text : List ℕ) (at : ℕ) (r : Next) : Type 0 where
-  pub line : (l : PackedLine) (next : ℕ) → r ≡ the-next.Line l next → (s : Scheme) → LineAt (rule_format s) text at (rule_line l) next
-  pub tabled : (l : PackedLine) (next : ℕ) → r ≡ the-next.Line l next → Tabled l × (first_rule_kind ≤ l.kind)
-  pub malformed : r ≡ the-next.Malformed → (s : Scheme) → NoLineAt (rule_format s) text at
+-- the bytes of the line at a place: those of what is left up to the first byte 10, which is there
+pub record LineBytes (text : List ℕ) (at : ℕ) (s : List ℕ) : Type 0 where
+  pub bytes : s ≡ take (up_to 10 (drop at text)) (drop at text)
+  pub ended : at + length s < length text

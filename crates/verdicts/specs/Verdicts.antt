@@ -1,36 +1,40 @@
--- What is found of a line, "tried 1 to 5", and of a text.
-use Rattle.std.specs.Prelude.{ℕ, Bool, false, cond, not, ◌&&◌, eqb}
-use Rattle.std.proofs.Math.Option.{Option, none, some}
-use mathlib.Core.List.{List, get_last?}
-use Rattle.model.specs.Graph.{Triple}
+-- What is found of a line, "tried 1 to 5".
+use Rattle.std.specs.Prelude.{ℕ, Bool, false, cond, not, ◌&&◌, eqb, Option, None, Some, Result, Ok, Err}
+use Rattle.std.specs.Bool.{⊤}
+use mathlib.Core.List.{List}
+use Rattle.lists.specs.Lists.{last_of}
+use Rattle.model.specs.Graph.{Triple, Scheme, Instance, Pattern}
 use Rattle.model.specs.Files.{Checks}
-use Rattle.model.specs.Refusals.{Outcome, accepted, refused}
+use Rattle.graph.specs.Packed.{scheme_of, instance_of, pattern_of}
+use Rattle.verdicts.specs.declared.above.Above.{Above}
+use Rattle.model.specs.declared.Refusal.{Refusal}
 use Rattle.model.specs.declared.Refusal.TheVariants.{Malformed, TooMany, Undeclared, Nonconforming, BadAction}
-use Rattle.verdicts.specs.declared.Verdict.{Verdict}
-use Rattle.verdicts.specs.declared.Verdict.TheVariants.{Passes, Fails}
-use Rattle.verdicts.specs.declared.Answer.{Answer}
-use Rattle.verdicts.specs.declared.Answer.TheVariants.{Accepted, Refused}
 
 -- causes 3 to 5
-unfoldable pub judged : (line : ℕ) → Checks → Verdict
+unfoldable pub judged : (line : ℕ) → Checks → Result ⊤ Refusal
 judged line c =
-    cond (not c.declared) (Fails (Undeclared line))
-    (cond (not c.conforming) (Fails (Nonconforming line))
-    (cond (not c.suited) (Fails (BadAction line)) Passes))
+    cond (not c.declared) (Err (Undeclared line))
+    (cond (not c.conforming) (Err (Nonconforming line))
+    (cond (not c.suited) (Err (BadAction line)) (Ok tt)))
 
 -- causes 1 to 5: of 1, that the line is in its turn and may stand there; of 2, that there are as many of its kind as may be
-unfoldable pub verdict : (line : ℕ) → (in_place crowded : Bool) → Checks → Verdict
-verdict line in_place crowded c = cond (not in_place) (Fails (Malformed line)) (cond crowded (Fails (TooMany line)) (judged line c))
+unfoldable pub verdict : (line : ℕ) → (in_place crowded : Bool) → Checks → Result ⊤ Refusal
+verdict line in_place crowded c = cond (not in_place) (Err (Malformed line)) (cond crowded (Err (TooMany line)) (judged line c))
 
 -- the last edge has the same node and the same name as this one
-abbrev shares_with : Option Triple → Triple → Bool
-shares_with none e = false
-shares_with (some f) e = eqb f.source e.source && eqb f.name e.name
+abbrev pub shares_with : Option Triple → Triple → Bool
+shares_with None e = false
+shares_with (Some f) e = eqb f.source e.source && eqb f.name e.name
 
 unfoldable pub last_shares : List Triple → Triple → Bool
-last_shares es e = shares_with (get_last? es) e
+last_shares es e = shares_with (last_of es) e
 
--- a text's answer, with what the text holds
-abbrev pub outcome : {A : Type 0} → Answer → A → Outcome A
-outcome Accepted a = accepted a
-outcome (Refused r) a = refused r
+-- what a line is judged under: a scheme, and a pattern or an instance
+abbrev pub scheme_above : Above → Scheme
+scheme_above a = scheme_of a.classes a.names a.permitted.now
+
+abbrev pub pattern_above : Above → Pattern
+pattern_above a = pattern_of a.nodes.now a.edges.now
+
+abbrev pub instance_above : Above → Instance
+instance_above a = instance_of a.nodes.now a.edges.now

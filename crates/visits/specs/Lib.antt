@@ -1,3 +1,3 @@
--- What a visit is given, and laws.
-pub mod Visiting
+-- A placement as a matching, and laws.
+pub mod Placed
 pub mod Laws

@@ -1,17 +1,19 @@
 -- A drawing file as the lines of rows.
 use Rattle.std.specs.Prelude.{ℕ, List, ◌++◌}
 use Rattle.lists.specs.Lists.{each}
-use Rattle.model.specs.Files.DrawingFile.{DrawingKey, class=, name=, may=, node=, edge=, drawing_form}
+use Rattle.forms.specs.declared.LineKind.{LineKind}
+use Rattle.forms.specs.declared.LineKind.TheVariants.{Class, Name, May, Node, Edge}
 use Rattle.printing.specs.Written.{row_text}
+use Rattle.writing.specs.declared.save.Rows.{Rows}
 
 -- the lines of one kind
-unfoldable pub rows_text : (kind : ℕ) (rows : List ℕ) → List ℕ
+unfoldable pub rows_text : LineKind → (rows : List ℕ) → List ℕ
 rows_text kind rows = each rows (row_text kind)
-
-abbrev pub lines_of : DrawingKey → (rows : List ℕ) → List ℕ
-lines_of key rows = rows_text (drawing_form key).turn rows
 
 -- those of all kinds: "Keys come in this order"
 unfoldable pub file_of_rows : (classes names permitted nodes edges : List ℕ) → List ℕ
 file_of_rows classes names permitted nodes edges =
-    lines_of class= classes ++ lines_of name= names ++ lines_of may= permitted ++ lines_of node= nodes ++ lines_of edge= edges
+    rows_text Class classes ++ rows_text Name names ++ rows_text May permitted ++ rows_text Node nodes ++ rows_text Edge edges
+
+abbrev pub file_of : Rows → List ℕ
+file_of r = file_of_rows r.classes.now r.names.now r.permitted.now r.nodes.now r.edges.now

@@ -133,7 +133,7 @@ pub const FILE_DECIDED: usize = 20_106;
 /// The first so many bytes of a rule text decide the answer to it: a longer text is refused as this part of it is.
 pub const RULE_DECIDED: usize = 465;
 
-/// How many bytes of stack must be free where a call is made, a third more than was measured.
+/// How many bytes of stack must be free where a call is made: more than was measured.
 ///
 /// ```
 /// # use hengvoat::{Session, STACK};

@@ -2,7 +2,7 @@
 -- node's targets, these rise, and rising numbers that have the same members are the same.
 use Prim.Native.Nat.{ℕ, ◌+◌, ◌*◌, ◌/◌, ◌%◌, ◌^◌, ◌<◌, ◌≤◌}
 use Rattle.std.proofs.Common.{arith, ap₂, ◌∙◌, subst}
-use Rattle.std.specs.Prelude.{◌≡◌, refl, ◌↔◌, true, false, ◌&&◌, ◌||◌, length, take}
+use Rattle.std.specs.Prelude.{◌≡◌, refl, ◌↔◌, true, false, ◌&&◌, ◌||◌, length, take, Ok, Err}
 use Rattle.std.proofs.Math.Path.{ap, sym}
 use Rattle.std.proofs.Math.Logic.Iff
 use Rattle.std.proofs.Math.Bool.{Bool, cond}
@@ -21,17 +21,17 @@ use Rattle.model.specs.Graph.{Scheme, Instance, Pattern, of_class, stands}
 use Rattle.model.specs.Matching.{matchings}
 use Rattle.model.specs.Operations.{abstract, with_node, new_nodes, images_of, targets, groups, grouped, group_arms, abstraction}
 use Rattle.model.specs.Refusals.{Outcome, accepted, refused, ◌>>=◌, in_turn}
+use Rattle.model.specs.declared.Refusal.{Refusal}
 use Rattle.model.specs.Sound.{Sound, SoundRule, suits}
 use Rattle.model.proofs.Laws.Graph.{stands-node, of-class, joins-triple, listed-instance}
-use Rattle.keys.specs.Keys.{keys_rise, Front}
+use Rattle.keys.specs.Keys.{keys_rise}
 use Rattle.keys.specs.Laws.Keys.{rise-cons, keys-determined, keep-rises}
 use Rattle.graph.specs.Packed.{unpack_triple, unpack_node, unpack_arm, instance_of, unpack_instance}
 use Rattle.graph.specs.declared.instance.PackedInstance.{PackedInstance}
 use Rattle.notes.specs.Notes.{sorted}
-use Rattle.notes.specs.Visits.{visited}
+use Rattle.notes.specs.Visits.{node_keys, visited}
 use Rattle.notes.specs.Laws.Images.{images-noted, noted-below}
-use Rattle.growth.specs.Growth.{held, Makes}
-use Rattle.growth.specs.declared.Verdict.{Verdict}
+use Rattle.growth.specs.Growth.{Makes}
 use Rattle.edge_runs.specs.Runs.{run_of, lowest, targets_at, has_targets}
 use Rattle.groups.specs.Groups.{numbers_of, alike, arms_led_by}
 use Rattle.abstraction.specs.Grouped.{GrowsTo, added_with, added_at, grouped_to}
@@ -244,33 +244,44 @@ module _ (class a b : ℕ) (nodes edges images : List ℕ) (named : (a < 2 ^ 6) 
 
 -- # What code makes
 -- numbers of nodes that fit
-pub numbers-below : (class : ℕ) (nodes numbers : List ℕ) (count : ℕ) → Below (2 ^ 54) nodes → Front numbers count (numbers_of class nodes)
-    → Below (2 ^ 16) (take count numbers)
+pub numbers-below : (class : ℕ) (nodes numbers : List ℕ) → Below (2 ^ 54) nodes → numbers ≡ numbers_of class nodes → Below (2 ^ 16) numbers
 unfolding numbers_of
-numbers-below class nodes numbers count below f k i =
-    let m = (in_map (λ n. n / 2 ^ 38) (keep (λ n. eqb (n / 2 ^ 32 % 2 ^ 6) class) nodes)).0 (subst (λ (l : List ℕ). k ∈ l) f.front i) in
-    let e : k ≡ m.0 / 2 ^ 38 = m.2 in
+numbers-below class nodes numbers below e k i =
+    let m = (in_map (λ n. n / 2 ^ 38) (keep (λ n. eqb (n / 2 ^ 32 % 2 ^ 6) class) nodes)).0 (subst (λ (l : List ℕ). k ∈ l) e i) in
+    let q : k ≡ m.0 / 2 ^ 38 = m.2 in
     let l : m.0 < 2 ^ 54 = below m.0 ((in-keep _ nodes).0 m.1).0 in
     omega arith
 
-pub groups-made : (d : PackedInstance) (class a b : ℕ) (images numbers : List ℕ) (count : ℕ) (verdict : Verdict) (nodes : List ℕ) (order : ℕ)
-    (edges : List ℕ) (size : ℕ)
-    → GrowsTo (in_turn images (added_at class images a (take d.size d.edges) (take count numbers) b)
-    (held d.nodes d.order d.edges d.size))
-    (record { verdict = verdict; order = order; size = size }) nodes edges
-    → Front numbers count (numbers_of class (take d.order d.nodes))
-    → keys_rise (take d.size d.edges) ≡ true → keys_rise images ≡ true → Below (2 ^ 16) images → a < 2 ^ 6 → b < 2 ^ 6
-    → Makes (grouped_to class a b images (unpack_instance d))
-    (record { verdict = verdict; instance = record { nodes = nodes; order = order; edges = edges; size = size } })
-unfolding unpack_instance
-groups-made d class a b images numbers count verdict nodes order edges size grows numbered edges_rise images_rise below l m =
-    let old = take d.size d.edges in
-    record {
-      fits = record { few_nodes = grows.few_nodes; few_edges = grows.few_edges };
-      makes = grows.outcome
-          ∙ ap (λ (ns : List ℕ). in_turn images (added_at class images a old ns b) (held d.nodes d.order d.edges d.size)) numbered.front
-          ∙ groups-of-arms class a b (take d.order d.nodes) old images (l, m) edges_rise images_rise below;
-    }
+pub numbers-few : (class : ℕ) (nodes numbers : List ℕ) → numbers ≡ numbers_of class nodes → length numbers ≤ length nodes
+unfolding numbers_of
+numbers-few class nodes numbers e =
+    let kept = keep (λ n. eqb (n / 2 ^ 32 % 2 ^ 6) class) nodes in
+    omega (arith, ap length e, length-map kept (λ n. n / 2 ^ 38), keep-length (λ n. eqb (n / 2 ^ 32 % 2 ^ 6) class) nodes)
+
+-- with the look-ups as they are made
+module _ (d : PackedInstance) (class a b : ℕ) (images numbers : List ℕ) (numbered : numbers ≡ numbers_of class (take d.order d.nodes))
+    (edges_rise : keys_rise (take d.size d.edges) ≡ true) (images_rise : keys_rise images ≡ true) (below : Below (2 ^ 16) images)
+    (l : a < 2 ^ 6) (m : b < 2 ^ 6) (asked edges served : List ℕ) (by to : ℕ) (e : asked ≡ images) (f : by ≡ a) (g : edges ≡ take d.size d.edges)
+    (h : served ≡ numbers) (k : to ≡ b) where
+  abbrev in_groups : Outcome Instance
+  in_groups = in_turn asked (added_at class asked by edges served to) (unpack_instance d)
+
+  made : in_groups ≡ grouped_to class a b images (unpack_instance d)
+  unfolding unpack_instance
+  made =
+      rw (e, f, g, h, k, numbered)
+      (groups-of-arms class a b (take d.order d.nodes) (take d.size d.edges) images (l, m) edges_rise images_rise below)
+
+  pub groups-refused : (r : Refusal) (grown : PackedInstance) → GrowsTo in_groups (Err r) grown
+      → Makes (grouped_to class a b images (unpack_instance d)) (Err r)
+  groups-refused r grown grows = record { fits = tt; makes = grows.outcome ∙ made }
+
+  pub groups-made : (grown : PackedInstance) → GrowsTo in_groups (Ok tt) grown → Makes (grouped_to class a b images (unpack_instance d)) (Ok grown)
+  groups-made grown grows =
+      record {
+        fits = record { few_nodes = grows.addable.few_nodes; few_edges = grows.addable.few_edges };
+        makes = grows.outcome ∙ made;
+      }
 
 -- # Of the images that are noted
 module _ (s : Scheme) (p : Pattern) (d : Instance) (q K a b : ℕ) (sound : Sound s d)
@@ -285,20 +296,20 @@ module _ (s : Scheme) (p : Pattern) (d : Instance) (q K a b : ℕ) (sound : Soun
       (stands-node p q).1 (n.0, n.1, n.2.0)
 
   abbrev noted_images : List ℕ
-  noted_images = sorted (foldl (visited (1 ∷ q ∷ [])) [] (matchings p d))
+  noted_images = sorted (foldl (visited (node_keys q)) [] (matchings p d))
 
   noted : noted_images ≡ keep (member (images_of q (matchings p d))) (map (λ n. n.number) d.nodes)
   noted = images-noted s p d q sound rule.listed node-stands
 
-  pub abstraction-noted : grouped_to K a b (sorted (foldl (visited (1 ∷ q ∷ [])) [] (matchings p d))) d ≡ abstraction q K a b (matchings p d) d
+  pub abstraction-noted : grouped_to K a b (sorted (foldl (visited (node_keys q)) [] (matchings p d))) d ≡ abstraction q K a b (matchings p d) d
   unfolding grouped_to abstraction
   abstraction-noted =
       ap (λ (images : List ℕ). new_nodes K (λ group now. grouped K b d group) (group_arms b) (groups d.edges a images) d) noted
 
-  pub images-below : Below (2 ^ 16) (sorted (foldl (visited (1 ∷ q ∷ [])) [] (matchings p d)))
+  pub images-below : Below (2 ^ 16) (sorted (foldl (visited (node_keys q)) [] (matchings p d)))
   images-below = noted-below s p d q sound rule.listed node-stands
 
-  pub images-few : length (sorted (foldl (visited (1 ∷ q ∷ [])) [] (matchings p d))) ≤ Limits.nodes
+  pub images-few : length (sorted (foldl (visited (node_keys q)) [] (matchings p d))) ≤ Limits.nodes
   images-few =
       omega (
         arith,

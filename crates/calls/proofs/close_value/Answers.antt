@@ -1,11 +1,7 @@
--- `calls::close_value` meets its contract, outcome by outcome. Assumes nothing.
+-- `calls::close_value` meets its contract: what is accepted or refused, settled, is a step. Assumes nothing.
 use borrow.Author.Rules.{rules}
-use borrow.Author.Tests.{not-true, not-false}
-use Rattle.calls.specs.Laws.Opening.{close-while-shut, closed}
+use Rattle.calls.specs.Laws.Settling.{settled-steps}
 use Rattle.calls.proofs.close_value.Goals as goal
 
-pub returns-then-not-session : goal.returns-then-not-session
-returns-then-not-session c = search (close-while-shut, not-true, rules)
-
 pub returns : goal.returns
-returns c = search (closed, not-false, rules)
+returns c = search (settled-steps, rules)

@@ -1,14 +1,7 @@
--- `calls::undo_value` meets its contract: shut, or no copy, or the newest copy. Assumes nothing.
+-- `calls::undo_value` meets its contract: what is accepted or refused, settled, is a step. Assumes nothing.
 use borrow.Author.Rules.{rules}
-use borrow.Author.Tests.{not-true, not-false}
-use Rattle.calls.specs.Laws.Applying.{undo-shut, undo-none, undo-done}
+use Rattle.calls.specs.Laws.Settling.{settled-steps}
 use Rattle.calls.proofs.undo_value.Goals as goal
 
-pub returns-then-not-session : goal.returns-then-not-session
-returns-then-not-session c = search (undo-shut, not-true, rules)
-
-pub returns-then-history-eq0 : goal.returns-then-history-eq0
-returns-then-history-eq0 c = search (undo-none, not-false, rules)
-
 pub returns : goal.returns
-returns c = search (undo-done, not-false, rules)
+returns c = search (settled-steps, rules)

@@ -1,70 +1,53 @@
--- What open and close leave, outcome by outcome: from what the functions behind them promise, by what the record accepts or refuses while it is shut and
--- while it is open.
-use Rattle.std.specs.Prelude.{ℕ, ◌≡◌, refl, true, false, List, [], length}
+-- What open and close accept and refuse: from what the functions behind them promise, by what the record accepts or refuses while it is shut and while
+-- it is open.
+use Rattle.std.specs.Prelude.{ℕ, ◌≡◌, refl, true, false, List, length, Ok, Err}
 use Rattle.std.proofs.Common.{arith}
-use Rattle.model.specs.Refusals.{accepted, refused}
-use Rattle.model.specs.Record.{Open, Close, nothing, accept}
-use Rattle.model.specs.Answers.{open_answer}
-use Rattle.model.specs.declared.OpenAnswer.TheVariants.{Opened}
+use Rattle.model.specs.Record.{Open, Close, accept}
 use Rattle.model.specs.declared.Refusal.{Refusal}
 use Rattle.model.specs.declared.Refusal.TheVariants.{NotOpen, AlreadyOpen}
-use Rattle.graph.specs.Packed.{unpack_declared, unpack_scheme, StoredScheme, StoredInstance}
-use Rattle.graph.specs.Packed.{FreshHistory}
+use Rattle.graph.specs.Packed.{unpack_declared, unpack_scheme, FreshHistory}
 use Rattle.graph.specs.declared.history.History.{History}
-use Rattle.graph.specs.declared.instance.PackedInstance.{PackedInstance}
-use Rattle.graph.specs.declared.scheme.PackedScheme.{PackedScheme}
 use Rattle.reading.specs.Readers.{ReadDrawing}
-use Rattle.reading.specs.declared.drawing.DrawingRead.{DrawingRead}
-use Rattle.verdicts.specs.declared.Answer.TheVariants.{Accepted, Refused}
+use Rattle.standing.specs.declared.Drawing.{Drawing}
 use Rattle.session.specs.declared.Session.{Session}
-use Rattle.calls.specs.declared.OpenLeft.{OpenLeft}
-use Rattle.session.specs.Sessions.{unpack_session, StoredSession, NewSession, Stepped}
-use Rattle.calls.specs.Within.{OpenedWith}
-use Rattle.session.proofs.Laws.Steps.{shut-is, open_is, refused-steps, accepted-steps}
+use Rattle.session.specs.Sessions.{unpack_session, NewSession}
+use Rattle.session.proofs.Laws.Steps.{shut-is, open_is}
 use Rattle.session.proofs.Laws.Fresh.{fresh-depth, fresh-copies}
+use Rattle.calls.specs.Within.{Accepts, open_report, step_report}
 
 -- # Open
--- "Open, on an accepted file, sets scheme and drawing, with no copies."
-pub opened-is : {s : PackedScheme} {d : PackedInstance} {h : History} {classes names : ℕ} → StoredScheme s → StoredInstance (unpack_scheme s) d
-    → FreshHistory h → classes ≡ length (unpack_declared s.classes) → names ≡ length (unpack_declared s.names)
-    → OpenedWith s d (record { answer = Opened classes names; session = record { opened = true; scheme = s; instance = d; history = h } })
-unfolding unpack_session unpack_scheme
-opened-is s d h c n = record {
-  answer = rw (c, n) refl;
-  session = rw h.empty refl;
-  stored = record { scheme = s; instance = d; few = omega (arith, fresh-depth h); copies = fresh-copies h _ };
-}
-
--- what an accepted file holds
-module _ {file : List ℕ} {r : DrawingRead} (read : ReadDrawing file r) (e : r.answer ≡ Accepted) where
-  pub scheme-stored : StoredScheme r.scheme
-  scheme-stored = read.scheme e
-
-  pub instance-stored : StoredInstance (unpack_scheme r.scheme) r.instance
-  instance-stored = read.instance e
-
-module _ {s : Session} {file : List ℕ} (stored : StoredSession s) where
+module _ {s : Session} {file : List ℕ} where
   -- "open while open"
-  pub open-while-open : s.opened ≡ true → Stepped (Open file) s (refused AlreadyOpen) [] s
+  pub open-while-open : s.opened ≡ true → Accepts open_report (Open file) s (Err AlreadyOpen)
   unfolding accept
-  open-while-open h = refused-steps stored (rw (open_is s h) refl)
+  open-while-open h = record { leaves = rw (open_is s h) refl; stored = tt }
 
-  module _ {r : DrawingRead} (h : s.opened ≡ false) (read : ReadDrawing file r) where
-    pub open-refused : {x : Refusal} → r.answer ≡ Refused x → Stepped (Open file) s (refused x) [] s
+  module _ (h : s.opened ≡ false) where
+    pub open-refused : {x : Refusal} → ReadDrawing file (Err x) → Accepts open_report (Open file) s (Err x)
     unfolding accept
-    open-refused e = refused-steps stored (rw (shut-is s h, ← read.answer, e) refl)
+    open-refused read = record { leaves = rw (shut-is s h, ← read.answer) refl; stored = tt }
 
-    pub open-accepted : {left : OpenLeft} → r.answer ≡ Accepted → OpenedWith r.scheme r.instance left
-        → Stepped (Open file) s (open_answer left.answer) [] left.session
-    unfolding accept
-    open-accepted e o = rw o.answer (accepted-steps (rw (shut-is s h, ← read.answer, e, o.session) refl) o.stored)
+    pub open-accepted : {d : Drawing} {past : History} {classes names : ℕ} → ReadDrawing file (Ok d) → FreshHistory past
+        → classes ≡ length (unpack_declared d.scheme.classes) → names ≡ length (unpack_declared d.scheme.names)
+        → Accepts open_report (Open file) s
+        (Ok (record { classes = classes; names = names }, record { opened = true; scheme = d.scheme; instance = d.instance; history = past }))
+    unfolding accept unpack_session unpack_scheme
+    open-accepted {d} {past} read fresh c n = record {
+      leaves = rw (shut-is s h, ← read.answer, c, n, fresh.empty) refl;
+      stored = record {
+        scheme = read.scheme d refl;
+        instance = read.instance d refl;
+        few = omega (arith, fresh-depth fresh);
+        copies = fresh-copies fresh _;
+      };
+    }
 
 -- # Close
-module _ {s : Session} (stored : StoredSession s) where
-  pub close-while-shut : s.opened ≡ false → Stepped Close s (refused NotOpen) [] s
+module _ {s : Session} where
+  pub close-while-shut : s.opened ≡ false → Accepts step_report Close s (Err NotOpen)
   unfolding accept
-  close-while-shut h = refused-steps stored (rw (shut-is s h) refl)
+  close-while-shut h = record { leaves = rw (shut-is s h) refl; stored = tt }
 
-  pub closed : {new : Session} → s.opened ≡ true → NewSession new → Stepped Close s (accepted nothing) [] new
+  pub closed : {new : Session} → s.opened ≡ true → NewSession new → Accepts step_report Close s (Ok (tt, new))
   unfolding accept
-  closed h n = accepted-steps (rw (open_is s h, n.shut) refl) n.stored
+  closed h n = record { leaves = rw (open_is s h, n.shut) refl; stored = n.stored }

@@ -1,17 +1,22 @@
 -- the goals that are left of `retain`
-use native.Mathlib.Omega.{arith}
-use borrow.Author.Rules.{rules}
-use Rattle.deletion.specs.Laws.Retained.{retaining-start, retaining-gone, retaining-kept, retaining-end}
+use Rattle.std.proofs.Common.{arith}
+use Rattle.deletion.specs.Laws.Retained.{retaining-gone, retaining-kept}
 use Rattle.deletion.proofs.retain.Goals as goal
-
-pub loop-next-init : goal.loop-next-init
-loop-next-init c = search (retaining-start, rules)
-
-pub loop-next-preserved-then-not-goes : goal.loop-next-preserved-then-not-goes
-loop-next-preserved-then-not-goes c = search (retaining-kept, rules)
+use Rattle.deletion.proofs.retain.Goals.{then-stays, else-stays}
 
 pub loop-next-preserved : goal.loop-next-preserved
-loop-next-preserved c = search (retaining-gone, rules)
-
-pub returns : goal.returns
-returns c = retaining-end c.loop-next.invariant (omega arith)
+loop-next-preserved g c =
+    elim c.if-stays.branch [
+      | then-stays w ↦ (
+        omega (arith, w.kept-is, c.loop-next.invariant.0),
+        λ stays tells.
+            rw (w.keys-is, w.kept-is)
+            (retaining-kept (c.loop-next.invariant.1 stays tells) c.loop-next-test.true _ (tells _ _ c.stays.ensures) w.if-stays.true),
+      )
+      | else-stays w ↦ (
+        omega (arith, w.kept-is, c.loop-next.invariant.0),
+        λ stays tells.
+            rw (w.keys-is, w.kept-is)
+            (retaining-gone (c.loop-next.invariant.1 stays tells) c.loop-next-test.true _ (tells _ _ c.stays.ensures) w.if-stays.false),
+      )
+    ]

@@ -2,7 +2,7 @@
 -- key tells which edge of a sound instance it is.
 use Rattle.std.specs.Prelude.{ℕ, ◌<◌, ◌≤◌, ◌^◌, ◌≡◌, not, ◌||◌, eqb}
 use Rattle.std.proofs.Common.{arith, ap, ap₂, ◌∙◌, sym, eqb-true}
-use mathlib.Core.List.{List, [], ◌∷◌, map, foldl}
+use mathlib.Core.List.{List, [], map, foldl}
 use Rattle.lists.specs.Lists.{◌∈◌, all, member, Below}
 use Rattle.lists.proofs.Laws.Lists.{both, any-member}
 use Rattle.lists.proofs.Laws.Maps.{keep_same, map_back}
@@ -16,16 +16,16 @@ use Rattle.model.proofs.Laws.Sound.{well-formed}
 use Rattle.graph.specs.Packed.{pack_triple, unpack_triple}
 use Rattle.graph.proofs.Laws.Triples.{unpack-packed}
 use Rattle.notes.specs.Notes.{sorted}
-use Rattle.notes.specs.Visits.{visited}
+use Rattle.notes.specs.Visits.{edge_keys, node_keys, visited}
 use Rattle.notes.specs.Laws.Images.{image-noted, noted-below, edge-noted}
 use Rattle.deletion.specs.Deleted.{without_nodes, without_edges}
 
 -- # Node deletion
 pub node-deletion-noted : (s : Scheme) (p : Pattern) (d : Instance) (q : ℕ) → Sound s d → SoundRule s (record { pattern = p; action = delete_node q })
-    → without_nodes (sorted (foldl (visited (1 ∷ q ∷ [])) [] (matchings p d))) d ≡ node_deletion q (matchings p d) d
+    → without_nodes (sorted (foldl (visited (node_keys q)) [] (matchings p d))) d ≡ node_deletion q (matchings p d) d
 unfolding node_deletion suits
 node-deletion-noted s p d q h r =
-    let noted = sorted (foldl (visited (1 ∷ q ∷ [])) [] (matchings p d)) in
+    let noted = sorted (foldl (visited (node_keys q)) [] (matchings p d)) in
     let gone = images_of q (matchings p d) in
     let same : (i : ℕ) → member noted i ≡ member gone i = image-noted s p d q h r.listed r.suited in
     ap₂ (λ (ns : List (Node ℕ)) (es : List Triple). record { nodes = ns; edges = es })
@@ -35,7 +35,7 @@ node-deletion-noted s p d q h r =
     (λ e i. ap₂ (λ a b. not (a || b)) (same e.source) (same e.target)))
 
 pub node-deletion-below : (s : Scheme) (p : Pattern) (d : Instance) (q : ℕ) → Sound s d → SoundRule s (record { pattern = p; action = delete_node q })
-    → Below (2 ^ 16) (sorted (foldl (visited (1 ∷ q ∷ [])) [] (matchings p d)))
+    → Below (2 ^ 16) (sorted (foldl (visited (node_keys q)) [] (matchings p d)))
 unfolding suits
 node-deletion-below s p d q h r = noted-below s p d q h r.listed r.suited
 
@@ -66,11 +66,11 @@ module _ (s : Scheme) (d : Instance) (h : Sound s d) where
 
 pub edge-deletion-noted : (s : Scheme) (p : Pattern) (d : Instance) (parts : List ℕ) → Sound s d
     → SoundRule s (record { pattern = p; action = delete_edges (map unpack_triple parts) })
-    → without_edges (sorted (foldl (visited (0 ∷ parts)) [] (matchings p d))) d ≡ edge_deletion (map unpack_triple parts) (matchings p d) d
+    → without_edges (sorted (foldl (visited (edge_keys parts)) [] (matchings p d))) d ≡ edge_deletion (map unpack_triple parts) (matchings p d) d
 unfolding edge_deletion suits
 edge-deletion-noted s p d parts h r =
     let ts = map unpack_triple parts in
-    let noted = sorted (foldl (visited (0 ∷ parts)) [] (matchings p d)) in
+    let noted = sorted (foldl (visited (edge_keys parts)) [] (matchings p d)) in
     let own = ((both (some_edges Limits.cuts ts) (all (has p.edges) ts)).0 r.suited).1 in
     ap (λ (es : List Triple). record { nodes = d.nodes; edges = es })
     (keep_same (λ e. not (member noted (pack_triple e))) (λ e. not (has (images ts (matchings p d)) e)) d.edges

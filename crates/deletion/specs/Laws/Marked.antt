@@ -1,6 +1,6 @@
 -- Numbers of nodes marked in words of 64 bits. A word with one bit more has that bit and those it had, so one number more is marked with each.
 use Rattle.std.specs.Prelude.{ℕ, zero, suc, ◌+◌, ◌-◌, ◌*◌, ◌/◌, ◌%◌, ◌^◌, ◌<◌, ◌≤◌, ◌≡◌, false, ◌||◌, List, [], ◌∷◌, length, take, set, replicate}
-use Rattle.std.proofs.Common.{arith, mod-lt, add-zero, one-mul, add-one, ap, ap₂, ◌∙◌, length-set, take-suc, take_all, get_or-set_same, get_or-set_other, pow_pos, pow-add, shl_exact}
+use Rattle.std.proofs.Common.{arith, mod-lt, add-zero, one-mul, add-one, ap, ap₂, ◌∙◌, length-set, take-suc, get_or-set_same, get_or-set_other, pow_pos, pow-add, shl_exact}
 use Rattle.std.proofs.Math.Nat.{div-eq_of_lt, lt_of_not-le}
 use Rattle.std.proofs.Math.Decide.{ℕ_discrete, dec_lt}
 use Rattle.std.proofs.Math.Path.{refl, sym}
@@ -107,18 +107,12 @@ module _ (numbers marks : List ℕ) where
   marking-start m = record { reached = omega arith; done = m }
 
   module _ (i : ℕ) (h : Marking numbers i marks) where
-    pub marking-end : length numbers ≤ i → Marks numbers marks
-    marking-end l = rw (take_all i numbers l) at h.done
-
     module _ (below : Below (2 ^ 16) numbers) (l : i < length numbers) where
       number-low : numbers ! i < 2 ^ 16
       number-low = below (numbers ! i) (at_place numbers i 0 l)
 
       pub marking-word : numbers ! i / 64 < length marks
       marking-word = omega (arith, number-low, h.done.room)
-
-      pub marking-place : numbers ! i / 64 * 8 < 2 ^ 64
-      marking-place = omega (arith, number-low)
 
       pub marking-more :
           Marking numbers (i + 1) (set marks (numbers ! i / 64) (bit_or (marks ! (numbers ! i / 64)) (1 * 2 ^ (numbers ! i % 64) % 2 ^ 64)))

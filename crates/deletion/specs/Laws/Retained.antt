@@ -1,81 +1,33 @@
 -- Keys that stay: those that have been looked at and don't go stand at the front, and what is left to look at is as it was. What stays of stored keys
 -- is what stays of the nodes and edges that they stand for.
-use Rattle.std.specs.Prelude.{ℕ, suc, ◌+◌, ◌/◌, ◌%◌, ◌^◌, ◌<◌, ◌≤◌, ◌≡◌, refl, Bool, true, false, ◌||◌, length, take, drop, set}
-use Rattle.std.proofs.Common.{arith, le_refl, add-one, ◌∙◌, length-set, length-take, length-take-le, take-suc, take-suc-set, drop-drop, drop-set-lt, get_or-drop}
+use Rattle.std.specs.Prelude.{ℕ, suc, ◌+◌, ◌/◌, ◌%◌, ◌^◌, ◌<◌, ◌≤◌, ◌≡◌, Bool, true, false, ◌||◌, length, take, drop, set}
+use Rattle.std.proofs.Common.{arith, add-one, ◌∙◌, length-set, length-take, length-take-le, take-suc, take-suc-set, drop-drop, drop-set-lt, get_or-drop}
 use Rattle.std.proofs.Math.Path.{ap, ap₂, sym}
 use Rattle.std.proofs.Math.Bool.{not}
 use mathlib.Core.List.{List, [], ◌∷◌, ◌++◌, map, append-nil}
-use borrow.Author.Tests.{eq-eqb, ne_eqb, not-true, not-false}
 use Rattle.lists.specs.Lists.{keep, member, ◌!◌}
 use Rattle.lists.proofs.Laws.Lists.{keep_append, keep-map, keep-length}
 use Rattle.lists.proofs.Laws.Maps.{keep_same}
 use Rattle.model.specs.Graph.{Triple, Node}
-use Rattle.model.specs.Limits
-use Rattle.keys.specs.Keys.{keys_rise, Front}
+use Rattle.keys.specs.Keys.{Front}
 use Rattle.graph.specs.Packed.{unpack_node, unpack_triple, pack_triple, unpack_instance, Fits}
 use Rattle.graph.proofs.Laws.Triples.{packed-unpack}
 use Rattle.graph.specs.declared.instance.PackedInstance.{PackedInstance}
-use Rattle.deletion.specs.Deleted.{words, marked, Marks, goes, Tells, WithoutNodes, WithoutEdges}
-
--- # Whether a key goes, as code asks it
-module _ (what : ℕ) (gone : List ℕ) (key : ℕ) (r : Bool) where
-  pub goes-node : what ≡ 0 → r ≡ marked gone (key / 2 ^ 38) → r ≡ goes what gone key
-  unfolding goes
-  goes-node e h = rw (eq-eqb what 0 e) h
-
-  pub goes-source : what ≡ 1 → r ≡ marked gone (key / 2 ^ 22) → r ≡ true → true ≡ goes what gone key
-  unfolding goes
-  goes-source e h t = rw (eq-eqb what 1 e, ne_eqb what 0 (omega arith), ← h, t)
-
-  pub goes-target : what ≡ 1 → (s : Bool) → s ≡ marked gone (key / 2 ^ 22) → s ≡ false → r ≡ marked gone (key % 2 ^ 16) → r ≡ goes what gone key
-  unfolding goes
-  goes-target e s h t k = rw (eq-eqb what 1 e, ne_eqb what 0 (omega arith), ← h, t) k
-
-  pub goes-itself : (what ≡ 0 → ⊥) → (what ≡ 1 → ⊥) → r ≡ member gone key → r ≡ goes what gone key
-  unfolding goes
-  goes-itself d e h = rw (ne_eqb what 0 d, ne_eqb what 1 e) h
-
--- # What tells
-module _ (what : ℕ) (gone : List ℕ) where
-  pub tells-nodes : Tells what gone → what ≡ 0 → length gone ≡ words
-  tells-nodes t e = t.marks (omega arith)
-
-  pub tells-ends : Tells what gone → what ≡ 1 → length gone ≡ words
-  tells-ends t e = t.marks (omega arith)
-
-  pub tells-keys : Tells what gone → (what ≡ 0 → ⊥) → (what ≡ 1 → ⊥) → keys_rise gone ≡ true
-  tells-keys t f g = t.keys (omega (arith, f, g))
-
-pub marks-tell : (what : ℕ) {numbers : List ℕ} (marks : List ℕ) → what ≤ 1 → Marks numbers marks → Tells what marks
-marks-tell what marks l m = record { marks = λ h. m.room; keys = λ h. absurd (omega arith) }
-
-pub keys-tell : (gone : List ℕ) → keys_rise gone ≡ true → Tells 2 gone
-keys-tell gone h = record { marks = λ l. absurd (omega arith); keys = λ l. h }
+use Rattle.deletion.specs.Deleted.{marked, Marks, node_stays, edge_stays, WithoutNodes, WithoutEdges}
 
 -- # The pass
-abbrev stays : (what : ℕ) → (gone : List ℕ) → ℕ → Bool
-stays what gone = λ k. not (goes what gone k)
-
 -- of the first `count` of the keys as they stood before, `next` have been looked at, and the first `kept` are those of them that stay
-pub record Retaining (what : ℕ) (gone before : List ℕ) (count : ℕ) (keys : List ℕ) (kept next : ℕ) : Type 0 where
+pub record Retaining (stays : ℕ → Bool) (before : List ℕ) (count : ℕ) (keys : List ℕ) (kept next : ℕ) : Type 0 where
   pub few : kept ≤ next
   pub reached : next ≤ count
   pub inside : count ≤ length keys
   pub room : length keys ≡ length before
-  pub front : take kept keys ≡ keep (stays what gone) (take next before)
+  pub front : take kept keys ≡ keep stays (take next before)
   pub rest : drop next keys ≡ drop next before
 
-module _ {what : ℕ} {gone : List ℕ} where
-  pub retaining-start : (before : List ℕ) (count : ℕ) → count ≤ length before → Retaining what gone before count before 0 0
-  retaining-start before count h = record { few = le_refl 0; reached = omega arith; inside = h; room = refl; front = refl; rest = refl }
-
-  module _ {before keys : List ℕ} {count kept next : ℕ} (i : Retaining what gone before count keys kept next) where
-    pub retaining-end : count ≤ next → Front keys kept (keep (stays what gone) (take count before))
-    retaining-end h =
-        let e : next ≡ count = omega (arith, i.reached) in
-        record { few = omega (arith, i.few, i.reached, i.inside); front = rw e at i.front }
-
-    module _ (l : next < count) (r : Bool) (asked : r ≡ goes what gone (keys ! next)) where
+module _ {stays : ℕ → Bool} where
+  module _ {before keys : List ℕ} {count kept next : ℕ} (i : Retaining stays before count keys kept next) where
+    module _ (l : next < count) (r : Bool) (asked : r ≡ stays (keys ! next)) where
       same_key : keys ! next ≡ before ! next
       same_key =
           let e : next + 0 ≡ next = omega arith in
@@ -83,21 +35,21 @@ module _ {what : ℕ} {gone : List ℕ} where
           ∙ ap (λ (xs : List ℕ). xs ! 0) i.rest
           ∙ get_or-drop next before 0 0 ∙ ap (λ n. before ! n) e
 
-      one_more : keep (stays what gone) (take (suc next) before) ≡ take kept keys ++ keep (stays what gone) ((keys ! next) ∷ [])
+      one_more : keep stays (take (suc next) before) ≡ take kept keys ++ keep stays ((keys ! next) ∷ [])
       one_more =
           let m : next < length before = omega (arith, i.inside, i.room) in
-          ap (keep (stays what gone)) (take-suc before next 0 m)
-          ∙ keep_append (stays what gone) (take next before) ((before ! next) ∷ [])
-          ∙ ap₂ (λ (xs : List ℕ) k. xs ++ keep (stays what gone) (k ∷ [])) (sym i.front) (sym same_key)
+          ap (keep stays) (take-suc before next 0 m)
+          ∙ keep_append stays (take next before) ((before ! next) ∷ [])
+          ∙ ap₂ (λ (xs : List ℕ) k. xs ++ keep stays (k ∷ [])) (sym i.front) (sym same_key)
 
       rest-after : drop (suc next) keys ≡ drop (suc next) before
       rest-after =
           let e : next + 1 ≡ suc next = add-one next in
           rw e at (sym (drop-drop 1 next keys) ∙ ap (λ (xs : List ℕ). drop 1 xs) i.rest ∙ drop-drop 1 next before)
 
-      pub retaining-gone : not r ≡ false → Retaining what gone before count keys kept (next + 1)
+      pub retaining-gone : r ≡ false → Retaining stays before count keys kept (next + 1)
       retaining-gone h =
-          let t : goes what gone (keys ! next) ≡ true = sym asked ∙ not-false r h in
+          let t : stays (keys ! next) ≡ false = sym asked ∙ h in
           record {
             few = omega (arith, i.few);
             reached = omega arith;
@@ -107,9 +59,9 @@ module _ {what : ℕ} {gone : List ℕ} where
             rest = rw add-one rest-after;
           }
 
-      pub retaining-kept : not r ≡ true → Retaining what gone before count (set keys kept (keys ! next)) (kept + 1) (next + 1)
+      pub retaining-kept : r ≡ true → Retaining stays before count (set keys kept (keys ! next)) (kept + 1) (next + 1)
       retaining-kept h =
-          let t : goes what gone (keys ! next) ≡ false = sym asked ∙ not-true r h in
+          let t : stays (keys ! next) ≡ true = sym asked ∙ h in
           let m : kept < length keys = omega (arith, i.few, i.inside) in
           record {
             few = omega (arith, i.few);
@@ -133,16 +85,14 @@ front-few {keys} {kept} stays before count f =
     )
 
 module _ (gone marks : List ℕ) (m : Marks gone marks) where
-  nodes-left : (ks : List ℕ) → map unpack_node (keep (λ k. not (goes 0 marks k)) ks) ≡ keep (λ n. not (member gone n.number)) (map unpack_node ks)
-  unfolding goes
+  nodes-left : (ks : List ℕ) → map unpack_node (keep (node_stays marks) ks) ≡ keep (λ n. not (member gone n.number)) (map unpack_node ks)
   nodes-left ks =
       ap (map unpack_node)
       (keep_same (λ k. not (marked marks (k / 2 ^ 38))) (λ k. not (member gone (k / 2 ^ 38))) ks (λ k i. ap not (m.same (k / 2 ^ 38))))
       ∙ sym (keep-map unpack_node (λ n. not (member gone n.number)) ks)
 
-  edges-apart : (ks : List ℕ) → map unpack_triple (keep (λ k. not (goes 1 marks k)) ks)
+  edges-apart : (ks : List ℕ) → map unpack_triple (keep (edge_stays marks) ks)
       ≡ keep (λ e. not (member gone e.source || member gone e.target)) (map unpack_triple ks)
-  unfolding goes
   edges-apart ks =
       ap (map unpack_triple)
       (keep_same
@@ -153,9 +103,8 @@ module _ (gone marks : List ℕ) (m : Marks gone marks) where
       ∙ sym (keep-map unpack_triple (λ e. not (member gone e.source || member gone e.target)) ks)
 
 module _ (gone : List ℕ) where
-  edges-left : (ks : List ℕ) → map unpack_triple (keep (λ k. not (goes 2 gone k)) ks)
+  edges-left : (ks : List ℕ) → map unpack_triple (keep (λ k. not (member gone k)) ks)
       ≡ keep (λ e. not (member gone (pack_triple e))) (map unpack_triple ks)
-  unfolding goes
   edges-left ks =
       ap (map unpack_triple)
       (keep_same (λ k. not (member gone k)) (λ k. not (member gone (pack_triple (unpack_triple k)))) ks
@@ -163,16 +112,10 @@ module _ (gone : List ℕ) where
       ∙ sym (keep-map unpack_triple (λ e. not (member gone (pack_triple e))) ks)
 
 module _ {d : PackedInstance} (fits : Fits d) where
-  pub nodes-room : length d.nodes ≡ Limits.nodes → d.order ≤ length d.nodes
-  nodes-room h = omega (arith, fits.few_nodes)
-
-  pub edges_room_lem : length d.edges ≡ Limits.edges → d.size ≤ length d.edges
-  edges_room_lem h = omega (arith, fits.few_edges)
-
   module _ {gone edges : List ℕ} {size : ℕ} where
     pub without-nodes-left : {marks nodes : List ℕ} {order : ℕ} → Marks gone marks
-        → Front nodes order (keep (λ k. not (goes 0 marks k)) (take d.order d.nodes))
-        → Front edges size (keep (λ k. not (goes 1 marks k)) (take d.size d.edges))
+        → Front nodes order (keep (node_stays marks) (take d.order d.nodes))
+        → Front edges size (keep (edge_stays marks) (take d.size d.edges))
         → WithoutNodes gone d (record { nodes = nodes; order = order; edges = edges; size = size })
     unfolding unpack_instance
     without-nodes-left {marks} m f g = record {
@@ -185,7 +128,7 @@ module _ {d : PackedInstance} (fits : Fits d) where
           (ap (map unpack_triple) g.front ∙ edges-apart gone marks m (take d.size d.edges));
     }
 
-    pub without-edges-left : Front edges size (keep (λ k. not (goes 2 gone k)) (take d.size d.edges))
+    pub without-edges-left : Front edges size (keep (λ k. not (member gone k)) (take d.size d.edges))
         → WithoutEdges gone d (record { nodes = d.nodes; order = d.order; edges = edges; size = size })
     unfolding unpack_instance
     without-edges-left g = record {

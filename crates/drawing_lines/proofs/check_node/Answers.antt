@@ -13,14 +13,14 @@ pub returns-then-node-ne0 : goal.returns-then-node-ne0
 unfolding node_checks
 returns-then-node-ne0 c = search (Judging, object-with-value, rules)
 
-pub returns-then-of_kind : goal.returns-then-of_kind
-unfolding node_checks
-returns-then-of_kind c = search (Judging, object-without-value, rules)
-
 pub returns-then-shares : goal.returns-then-shares
 unfolding node_checks
 returns-then-shares c = search (Judging, value-shared, rules)
 
-pub returns : goal.returns
+pub returns-else-node-ne0 : goal.returns-else-node-ne0
 unfolding node_checks
-returns c = search (Judging, value-apart, rules)
+returns-else-node-ne0 c = search (Judging, object-without-value, rules)
+
+pub returns-else-shares : goal.returns-else-shares
+unfolding node_checks
+returns-else-shares c = search (Judging, value-apart, rules)

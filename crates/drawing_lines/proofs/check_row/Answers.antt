@@ -5,22 +5,22 @@ use Rattle.drawing_lines.specs.Laws.DrawingVerdict.{may-classes, edge-source, de
 use Rattle.drawing_lines.proofs.check_row.Goals as goal
 
 pub check_may-requires : goal.check_may-requires
-check_may-requires c = let given = c.requires.kind_lt_first_rule_kind in may-classes _ given.0 given.1 c.in-2.is
+check_may-requires c = let given = c.requires.in_form in may-classes _ given.0 given.1 c.in-May.is
 
 pub check_edge-requires : goal.check_edge-requires
 check_edge-requires c = search (edge-source, rules)
 
-pub returns-in-2 : goal.returns-in-2
+pub returns-in-May : goal.returns-in-May
 unfolding line_checks may_checks
-returns-in-2 c = rw c.in-2.is c.check_may.ensures
+returns-in-May c = rw c.in-May.is c.check_may.ensures
 
-pub returns-in-3 : goal.returns-in-3
+pub returns-in-Node : goal.returns-in-Node
 unfolding line_checks node_checks
-returns-in-3 c = rw c.in-3.is c.check_node.ensures
+returns-in-Node c = rw c.in-Node.is c.check_node.ensures
 
-pub returns-in-4 : goal.returns-in-4
+pub returns-in-Edge : goal.returns-in-Edge
 unfolding line_checks edge_checks
-returns-in-4 c = rw c.in-4.is c.check_edge.ensures
+returns-in-Edge c = rw c.in-Edge.is c.check_edge.ensures
 
 pub returns-in_default : goal.returns-in_default
 returns-in_default c = search (declaring-row, rules)

@@ -1,14 +1,13 @@
 -- Rising keys of edges as edge addition judges them. Keys of one source and name stand together, so two of them clash exactly if two neighbours do;
 -- the first neighbours that clash have the smallest source, and the nodes rise, so the first node that is torn is that source.
-use Rattle.std.specs.Prelude.{ℕ, suc, ◌+◌, ◌-◌, ◌/◌, ◌%◌, ◌^◌, ◌<◌, ◌≤◌, ◌≡◌, ◌↔◌, Bool, true, false, cond, ◌&&◌, drop, set, eqb, ltb}
-use Rattle.std.proofs.Common.{arith, zero-add, add-one, ap₂, ◌∙◌, subst, ⊎_elim, drop-cons, eq-eqb, ne_eqb, lt-ltb, le-ltb, ltb-true, ltb-false, eqb-true}
+use Rattle.std.specs.Prelude.{ℕ, ◌/◌, ◌%◌, ◌^◌, ◌<◌, ◌≤◌, ◌≡◌, ◌↔◌, Bool, true, false, cond, ◌&&◌, take, drop, eqb, ltb, Option, None, Some, Ok, Err}
+use Rattle.std.proofs.Common.{arith, ap₂, ◌∙◌, subst, ⊎_elim, eq-eqb, ne_eqb, lt-ltb, le-ltb, ltb-true, ltb-false, eqb-true}
 use Rattle.std.proofs.Math.Path.{refl, ap, sym}
 use Rattle.std.proofs.lemmas.Bool.{false≢true}
-use Rattle.std.proofs.Math.Option.{Option, none, some}
 use mathlib.Core.List.Memᴰ
 use mathlib.Core.List.{List, [], ◌∷◌, map}
-use Rattle.std.proofs.Math.ListN.{length, length-drop}
-use Rattle.std.proofs.Math.Seq.{take-append_seam, take-length}
+use Rattle.std.proofs.Math.ListN.{length}
+use Rattle.std.proofs.Math.Seq.{take-append_seam}
 use Rattle.lists.specs.Lists.{◌∈◌, any, find, ◌!◌}
 use Rattle.lists.specs.Buffers.{at_front}
 use Rattle.lists.specs.Order.{Smallest}
@@ -21,79 +20,69 @@ use Rattle.model.proofs.Laws.Graph.{stands-node}
 use Rattle.model.proofs.Laws.Sound.{well-formed}
 use Rattle.keys.specs.Keys.{keys_rise}
 use Rattle.keys.specs.Laws.Keys.{rise-cons}
-use Rattle.graph.specs.Packed.{unpack_triple, unpack_declared, unpack_scheme, unpack_instance, Fits, StoredInstance, found_number}
+use Rattle.graph.specs.Packed.{unpack_triple, unpack_declared, unpack_scheme, unpack_instance, StoredInstance}
 use Rattle.graph.specs.declared.declarations.Declarations.{Declarations}
-use Rattle.graph.specs.declared.instance.Found.{Found}
-use Rattle.graph.specs.declared.instance.Found.TheVariants.{At, Nothing}
 use Rattle.graph.specs.declared.instance.PackedInstance.{PackedInstance}
 use Rattle.graph.specs.declared.scheme.PackedScheme.{PackedScheme}
 use Rattle.growth.specs.Growth.{Makes}
 use Rattle.edge_addition.specs.Joined.{tears, first_torn, SourcesIn, joined_to}
-use Rattle.growth.specs.Laws.Growing.{Put, put-none, put-more, put-long}
-use Rattle.growth.specs.declared.Verdict.TheVariants.{Done, Refused}
 
 -- # The search for neighbours that clash
--- no two neighbours before place i do
-pub record WholeBefore (names : Declarations) (edges : List ℕ) (i : ℕ) : Type 0 where
-  pub started : 1 ≤ i
-  pub left : first_torn names edges ≡ first_torn names (drop (i - 1) edges)
-
-torn-here : (names : Declarations) (k l : ℕ) (ks : List ℕ) → tears names k l ≡ true → first_torn names (k ∷ l ∷ ks) ≡ some (l / 2 ^ 22)
+torn-here : (names : Declarations) (k l : ℕ) (ks : List ℕ) → tears names k l ≡ true → first_torn names (k ∷ l ∷ ks) ≡ Some (l / 2 ^ 22)
 unfolding first_torn
 torn-here names k l ks t = rw t
 
 torn-later : (names : Declarations) (k l : ℕ) (ks : List ℕ) → tears names k l ≡ false → first_torn names (k ∷ l ∷ ks) ≡ first_torn names (l ∷ ks)
 unfolding first_torn
-torn-later names k l ks t = ap (λ b. cond b (some (l / 2 ^ 22)) (first_torn names (l ∷ ks))) t
+torn-later names k l ks t = ap (λ b. cond b (Some (l / 2 ^ 22)) (first_torn names (l ∷ ks))) t
 
-module _ (names : Declarations) (edges : List ℕ) where
-  pub whole-start : WholeBefore names edges 1
-  whole-start = record { started = omega arith; left = refl }
+-- keys that are left, of which the first two are looked at
+module _ (names : Declarations) (edges rest : List ℕ) (left : first_torn names edges ≡ first_torn names rest) where
+  pub none-left : (size : ℕ) → size ≡ 2 → length rest < size → None ≡ first_torn names edges
+  unfolding first_torn
+  none-left size two h = sym (left ∙ go rest (omega arith))
+    where
+      go : (ks : List ℕ) → length ks < 2 → first_torn names ks ≡ None
+      go [] h = refl
+      go (k ∷ []) h = refl
+      go (k ∷ l ∷ ks) h = absurd (omega arith)
 
-  module _ (i : ℕ) (h : WholeBefore names edges i) where
-    pub whole-end : length edges ≤ i → none ≡ first_torn names edges
-    unfolding first_torn
-    whole-end l = sym (h.left ∙ go (drop (i - 1) edges) (omega (arith, length-drop (i - 1) edges)))
+  module _ (pair : List ℕ) (size : ℕ) (pairs : size ≡ 2) (two : size ≤ length rest) (front : pair ≡ take size rest) where
+    both-left : (k l : ℕ) (ks : List ℕ) → rest ≡ k ∷ l ∷ ks → (pair ! 0 ≡ k) × (pair ! 1 ≡ l) × (first_torn names edges ≡ first_torn names (k ∷ l ∷ ks))
+    both-left k l ks e =
+        let f : pair ≡ k ∷ l ∷ [] = rw (front, pairs, e) refl in
+        (ap (λ (p : List ℕ). p ! 0) f, ap (λ (p : List ℕ). p ! 1) f, left ∙ ap (first_torn names) e)
+
+    tears-first : tears names (pair ! 0) (pair ! 1) ≡ true → Some (pair ! 1 / 2 ^ 22) ≡ first_torn names edges
+    tears-first t = go rest refl (omega arith)
       where
-        go : (ks : List ℕ) → length ks ≤ 1 → first_torn names ks ≡ none
-        go [] h = refl
-        go (k ∷ []) h = refl
-        go (k ∷ l ∷ ks) h = absurd (omega arith)
+        go : (ks : List ℕ) → rest ≡ ks → 2 ≤ length ks → Some (pair ! 1 / 2 ^ 22) ≡ first_torn names edges
+        go [] e h = absurd (omega arith)
+        go (k ∷ []) e h = absurd (omega arith)
+        go (k ∷ l ∷ ks) e h =
+            let r = both-left k l ks e in
+            rw r.1 (sym (r.2 ∙ torn-here names k l ks (sym (ap₂ (tears names) r.0 r.1) ∙ t)))
 
-    module _ (inside : i < length edges) where
-      two-left : drop (i - 1) edges ≡ edges ! (i - 1) ∷ edges ! i ∷ drop (i + 1) edges
-      two-left =
-          let e : suc (i - 1) ≡ i = omega (arith, h.started) in
-          drop-cons edges (i - 1) 0 (omega arith)
-          ∙ ap (λ (l : List ℕ). edges ! (i - 1) ∷ l)
-          (ap (λ n. drop n edges) e ∙ drop-cons edges i 0 inside ∙ ap (λ n. edges ! i ∷ drop n edges) (sym (add-one i)))
+    whole-on : tears names (pair ! 0) (pair ! 1) ≡ false → first_torn names edges ≡ first_torn names (drop 1 rest)
+    whole-on t = go rest refl (omega arith)
+      where
+        go : (ks : List ℕ) → rest ≡ ks → 2 ≤ length ks → first_torn names edges ≡ first_torn names (drop 1 rest)
+        go [] e h = absurd (omega arith)
+        go (k ∷ []) e h = absurd (omega arith)
+        go (k ∷ l ∷ ks) e h =
+            let r = both-left k l ks e in
+            r.2 ∙ torn-later names k l ks (sym (ap₂ (tears names) r.0 r.1) ∙ t) ∙ ap (λ (m : List ℕ). first_torn names (drop 1 m)) (sym e)
 
-      first-left : first_torn names edges ≡ first_torn names (edges ! (i - 1) ∷ edges ! i ∷ drop (i + 1) edges)
-      first-left = h.left ∙ ap (first_torn names) two-left
+    pub whole-apart : (pair ! 0 / 2 ^ 16 ≡ pair ! 1 / 2 ^ 16 → ⊥) → first_torn names edges ≡ first_torn names (drop 1 rest)
+    whole-apart d = whole-on (rw (ne_eqb (pair ! 0 / 2 ^ 16) (pair ! 1 / 2 ^ 16) d))
 
-      on : tears names (edges ! (i - 1)) (edges ! i) ≡ false → WholeBefore names edges (i + 1)
-      on t =
-          let e : i ≡ i + 1 - 1 = omega arith in
-          let rest : edges ! i ∷ drop (i + 1) edges ≡ drop (i + 1 - 1) edges =
-          ap (λ n. edges ! i ∷ drop n edges) (add-one i) ∙ sym (drop-cons edges i 0 inside) ∙ ap (λ n. drop n edges) e in
-          record {
-            started = omega arith;
-            left = first-left ∙ torn-later names (edges ! (i - 1)) (edges ! i) (drop (i + 1) edges) t ∙ ap (first_torn names) rest;
-          }
+    module _ (same : pair ! 0 / 2 ^ 16 ≡ pair ! 1 / 2 ^ 16) (o : Bool)
+        (kind : o ≡ of_kind 0 (unpack_declared names) (pair ! 1 / 2 ^ 16 % 2 ^ 6)) where
+      pub whole-many : o ≡ false → first_torn names edges ≡ first_torn names (drop 1 rest)
+      whole-many f = whole-on (rw (eq-eqb (pair ! 0 / 2 ^ 16) (pair ! 1 / 2 ^ 16) same, ← kind) f)
 
-      pub whole_apart : (edges ! (i - 1) / 2 ^ 16 ≡ edges ! i / 2 ^ 16 → ⊥) → WholeBefore names edges (i + 1)
-      whole_apart d = on (rw (ne_eqb (edges ! (i - 1) / 2 ^ 16) (edges ! i / 2 ^ 16) d))
-
-      module _ (same : edges ! (i - 1) / 2 ^ 16 ≡ edges ! i / 2 ^ 16) (o : Bool)
-          (kind : o ≡ of_kind 0 (unpack_declared names) (edges ! i / 2 ^ 16 % 2 ^ 6)) where
-        pub whole-many : o ≡ false → WholeBefore names edges (i + 1)
-        whole-many f = on (rw (eq-eqb (edges ! (i - 1) / 2 ^ 16) (edges ! i / 2 ^ 16) same, ← kind) f)
-
-        pub tears-here : o ≡ true → some (edges ! i / 2 ^ 22) ≡ first_torn names edges
-        tears-here t =
-            sym (first-left
-            ∙ torn-here names (edges ! (i - 1)) (edges ! i) (drop (i + 1) edges)
-            (rw (eq-eqb (edges ! (i - 1) / 2 ^ 16) (edges ! i / 2 ^ 16) same, ← kind) t))
+      pub tears-here : o ≡ true → Some (pair ! 1 / 2 ^ 22) ≡ first_torn names edges
+      tears-here t = tears-first (rw (eq-eqb (pair ! 0 / 2 ^ 16) (pair ! 1 / 2 ^ 16) same, ← kind) t)
 
 -- # Two keys that clash
 -- from one node, by one functional name
@@ -108,8 +97,8 @@ record Clash (names : Declarations) (ks : List ℕ) (b : ℕ) : Type 0 where
 
 -- none do, or those do that have the smallest source
 abbrev First : Declarations → List ℕ → Option ℕ → Type 0
-First names ks none = (b : ℕ) → Clash names ks b → ⊥
-First names ks (some i) = ((b : ℕ) × Clash names ks b × (b / 2 ^ 22 ≡ i)) × ((b : ℕ) → Clash names ks b → i ≤ b / 2 ^ 22)
+First names ks None = (b : ℕ) → Clash names ks b → ⊥
+First names ks (Some i) = ((b : ℕ) × Clash names ks b × (b / 2 ^ 22 ≡ i)) × ((b : ℕ) → Clash names ks b → i ≤ b / 2 ^ 22)
 
 neighbours : (names : Declarations) (k l : ℕ) → k < l → (tears names k l ≡ true) ↔ Clashing names k l
 neighbours names k l h =
@@ -161,8 +150,8 @@ first-torn names (k ∷ l ∷ ks) h = go (tears names k l) refl (first-torn name
     longer b c = record { a = c.a; first = Memᴰ.tail c.first; second = Memᴰ.tail c.second; clashing = c.clashing }
 
     lift : (Clashing names k l → ⊥) → (o : Option ℕ) → First names (l ∷ ks) o → First names (k ∷ l ∷ ks) o
-    lift apart none f = λ b c. f b (clash-later names k l ks h apart b c)
-    lift apart (some i) f = ((f.0.0, longer f.0.0 f.0.1, f.0.2), λ b c. f.1 b (clash-later names k l ks h apart b c))
+    lift apart None f = λ b c. f b (clash-later names k l ks h apart b c)
+    lift apart (Some i) f = ((f.0.0, longer f.0.0 f.0.1, f.0.2), λ b c. f.1 b (clash-later names k l ks h apart b c))
 
     go : (t : Bool) → tears names k l ≡ t → First names (l ∷ ks) (first_torn names (l ∷ ks)) → First names (k ∷ l ∷ ks) (first_torn names (k ∷ l ∷ ks))
     go true t more =
@@ -240,16 +229,16 @@ module _ (s : Scheme) (names : Declarations) (same : s.names ≡ unpack_declared
     abbrev is_torn : Node ℕ → Bool
     is_torn n = torn s edges n.number
 
-    whole : first_torn names ks ≡ none → find is_torn d.nodes ≡ none
+    whole : first_torn names ks ≡ None → find is_torn d.nodes ≡ None
     whole e =
-        let f : First names ks none = subst (First names ks) e (first-torn names ks rise) in
+        let f : First names ks None = subst (First names ks) e (first-torn names ks rise) in
         (finds-none is_torn d.nodes).1 (λ n j. (fails (is_torn n)).1 (λ t. let c = (torn-clash n.number).0 t in f c.0 c.1))
 
-    tears-at : nodes_rise d ≡ true → SourcesIn d ks → (i : ℕ) → first_torn names ks ≡ some i
-        → (n : Node ℕ) × (find is_torn d.nodes ≡ some n) × (n.number ≡ i)
+    tears-at : nodes_rise d ≡ true → SourcesIn d ks → (i : ℕ) → first_torn names ks ≡ Some i
+        → (n : Node ℕ) × (find is_torn d.nodes ≡ Some n) × (n.number ≡ i)
     tears-at nodes_rise standing i e = go (find is_torn d.nodes) refl (find-smallest (λ n. n.number ∷ []) is_torn d.nodes nodes_rise)
       where
-        f : First names ks (some i)
+        f : First names ks (Some i)
         f = subst (First names ks) e (first-torn names ks rise)
 
         source : (n : Node ℕ) × (n ∈ d.nodes) × (n.number ≡ i)
@@ -261,9 +250,9 @@ module _ (s : Scheme) (names : Declarations) (same : s.names ≡ unpack_declared
         passes = (torn-clash source.0.number).1 (f.0.0, f.0.1, f.0.2 ∙ sym source.2)
 
         go : (o : Option (Node ℕ)) → find is_torn d.nodes ≡ o → Smallest (λ n. n.number ∷ []) (λ n. (n ∈ d.nodes) × (is_torn n ≡ true)) o
-            → (n : Node ℕ) × (find is_torn d.nodes ≡ some n) × (n.number ≡ i)
-        go none p h = absurd (h source.0 (source.1, passes))
-        go (some m) p h =
+            → (n : Node ℕ) × (find is_torn d.nodes ≡ Some n) × (n.number ≡ i)
+        go None p h = absurd (h source.0 (source.1, passes))
+        go (Some m) p h =
             let c = (torn-clash m.number).0 h.0.1 in
             let least : i ≤ c.0 / 2 ^ 22 = f.1 c.0 c.1 in
             let at : c.0 / 2 ^ 22 ≡ m.number = c.2 in
@@ -278,26 +267,6 @@ module _ (s : Scheme) (names : Declarations) (same : s.names ≡ unpack_declared
                   (h.1 source.0 (source.1, passes)),
             )
 
--- # Keys put at the front
-module _ (keys before : List ℕ) where
-  pub keys_none : length keys ≤ length before → Put keys 0 before 0 before
-  keys_none h = put-none keys 0 before (rw zero-add h)
-
-  module _ (i : ℕ) (now : List ℕ) (h : Put keys 0 before i now) where
-    pub keys-more : i < length keys → Put keys 0 before (i + 1) (set now i (keys ! i))
-    keys-more l = rw zero-add at (put-more keys 0 before i now h l)
-
-    pub keys-inside : i < length keys → i < length now
-    keys-inside l = omega (arith, h.room, put-long keys 0 before i now h)
-
-    pub keys-long : length now ≡ length before
-    keys-long = put-long keys 0 before i now h
-
-    pub keys-all : length keys ≤ i → now ≡ at_front keys before
-    keys-all l =
-        let all : i ≡ length keys = omega (arith, h.few) in
-        rw (h.put, all, take-length, zero-add)
-
 -- # What edge addition makes
 module _ (scheme : PackedScheme) (d : PackedInstance) (ks : List ℕ) (stored : StoredInstance (unpack_scheme scheme) d) where
   abbrev s : Scheme
@@ -307,32 +276,26 @@ module _ (scheme : PackedScheme) (d : PackedInstance) (ks : List ℕ) (stored : 
   unfolding unpack_scheme
   same_names = refl
 
-  fits : Fits d
-  fits = record { few_nodes = stored.few_nodes; few_edges = stored.few_edges }
-
-  pub makes-full : Limits.edges < length ks → Makes (joined_to s ks (unpack_instance d)) (record { verdict = Refused EdgesFull; instance = d })
+  pub makes-full : Limits.edges < length ks → Makes (joined_to s ks (unpack_instance d)) (Err EdgesFull)
   unfolding joined_to
-  makes-full h = record { fits = fits; makes = rw (lt-ltb Limits.edges (length ks) h) }
+  makes-full h = record { fits = tt; makes = rw (lt-ltb Limits.edges (length ks) h) }
 
-  module _ (few : length ks ≤ Limits.edges) (rise : keys_rise ks ≡ true) (f : Found) (found : found_number f ≡ first_torn scheme.names ks) where
-    pub makes-torn : SourcesIn (unpack_instance d) ks → (i : ℕ) → f ≡ At i
-        → Makes (joined_to s ks (unpack_instance d)) (record { verdict = Refused (FunctionalClash i); instance = d })
+  module _ (few : length ks ≤ Limits.edges) (rise : keys_rise ks ≡ true) where
+    pub makes-torn : SourcesIn (unpack_instance d) ks → (i : ℕ) → Some i ≡ first_torn scheme.names ks
+        → Makes (joined_to s ks (unpack_instance d)) (Err (FunctionalClash i))
     unfolding joined_to
-    makes-torn sources i e =
+    makes-torn sources i found =
         let nodes_rise = (well-formed s (unpack_instance d) stored.sound).nodes-rise in
-        let r = tears-at s scheme.names same_names ks rise (unpack_instance d) nodes_rise sources i (sym found ∙ ap found_number e) in
-        record { fits = fits; makes = rw (le-ltb Limits.edges (length ks) few, r.1, r.2) }
+        let r = tears-at s scheme.names same_names ks rise (unpack_instance d) nodes_rise sources i (sym found) in
+        record { fits = tt; makes = rw (le-ltb Limits.edges (length ks) few, r.1, r.2) }
 
-    pub makes-whole : f ≡ Nothing → (edges : List ℕ) → edges ≡ at_front ks d.edges
+    pub makes-whole : None ≡ first_torn scheme.names ks → (edges : List ℕ) → edges ≡ at_front ks d.edges
         → Makes (joined_to s ks (unpack_instance d))
-        (record { verdict = Done; instance = record { nodes = d.nodes; order = d.order; edges = edges; size = length ks } })
+        (Ok (record { nodes = d.nodes; order = d.order; edges = edges; size = length ks }))
     unfolding joined_to unpack_instance
-    makes-whole e edges put =
-        let none-torn = whole s scheme.names same_names ks rise (unpack_instance d) (sym found ∙ ap found_number e) in
+    makes-whole found edges put =
+        let none-torn = whole s scheme.names same_names ks rise (unpack_instance d) (sym found) in
         record {
           fits = record { few_nodes = stored.few_nodes; few_edges = few };
           makes = rw (le-ltb Limits.edges (length ks) few, none-torn, put, take-append_seam ks (drop (length ks) d.edges));
         }
-
-  pub joined-fits : length ks ≤ Limits.edges → length d.edges ≡ Limits.edges → length ks ≤ length d.edges
-  joined-fits h room = omega arith

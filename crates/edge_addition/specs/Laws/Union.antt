@@ -23,7 +23,7 @@ use Rattle.graph.specs.Packed.{unpack_triple, instance_of}
 use Rattle.graph.proofs.Laws.Keys.{rising-triples, join-triple}
 use Rattle.graph.proofs.Laws.Triples.{unpack-packed}
 use Rattle.notes.specs.Notes.{most, note_all, sorted}
-use Rattle.notes.specs.Visits.{edge_key, keys_at, visited}
+use Rattle.notes.specs.Visits.{edge_key, edge_keys, visited}
 use Rattle.notes.specs.Laws.Noting.{join_all, in-sorted, sorted-rising, sorted-length, noted-most, noted-append, noted-from, noted-rising}
 use Rattle.notes.specs.Laws.Noting.{joined-noted, joined-many, visits-flat}
 use Rattle.edge_addition.specs.Joined.{SourcesIn, joined_to}
@@ -90,11 +90,10 @@ module _ (s : Scheme) (p : Pattern) (nodes edges parts : List ℕ) (sound : Soun
 
   -- # What is noted
   abbrev log : List ℕ
-  log = foldl (visited (0 ∷ parts)) (note_all [] edges) ms
+  log = foldl (visited (edge_keys parts)) (note_all [] edges) ms
 
   log-flat : log ≡ note_all edges keys
-  unfolding keys_at
-  log-flat = visits-flat (0 ∷ parts) (note_all [] edges) ms ∙ ap (λ l. note_all l keys) (noted-rising edges rise (omega (arith, few)))
+  log-flat = visits-flat (edge_keys parts) (note_all [] edges) ms ∙ ap (λ l. note_all l keys) (noted-rising edges rise (omega (arith, few)))
 
   -- with room, the keys are joined
   log-joined : length (note_all edges keys) < most → sorted log ≡ join_all edges keys
@@ -120,7 +119,7 @@ module _ (s : Scheme) (p : Pattern) (nodes edges parts : List ℕ) (sound : Soun
       rw (lt-ltb Limits.edges (length (sorted log)) (omega arith), lt-ltb Limits.edges (length (join_edges (images ts ms) d.edges)) l)
 
   pub edge-addition-noted :
-      joined_to s (sorted (foldl (visited (0 ∷ parts)) (note_all [] edges) (matchings p (instance_of nodes edges)))) (instance_of nodes edges)
+      joined_to s (sorted (foldl (visited (edge_keys parts)) (note_all [] edges) (matchings p (instance_of nodes edges)))) (instance_of nodes edges)
       ≡ edge_addition s (map unpack_triple parts) (matchings p (instance_of nodes edges)) (instance_of nodes edges)
   edge-addition-noted = go (ltb (length (note_all edges keys)) most) refl
     where
@@ -133,7 +132,7 @@ module _ (s : Scheme) (p : Pattern) (nodes edges parts : List ℕ) (sound : Soun
 
   -- the sources of what is noted stand
   pub noted-sources :
-      SourcesIn (instance_of nodes edges) (sorted (foldl (visited (0 ∷ parts)) (note_all [] edges) (matchings p (instance_of nodes edges))))
+      SourcesIn (instance_of nodes edges) (sorted (foldl (visited (edge_keys parts)) (note_all [] edges) (matchings p (instance_of nodes edges))))
   noted-sources k i =
       ⊎_elim
       (λ j. (listed.graph.ends (unpack_triple k) ((in_map unpack_triple edges).1 (k, j, refl))).0)

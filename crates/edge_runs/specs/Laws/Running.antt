@@ -1,25 +1,24 @@
 -- Runs, as code walks them: a run begins at its place among rising keys, and a key of another run ends it.
 -- By what is left of the keys from a place on: they rise, and none is below the run.
-use Rattle.std.specs.Prelude.{ℕ, suc, ◌+◌, ◌*◌, ◌-◌, ◌/◌, ◌%◌, ◌^◌, ◌<◌, ◌≤◌, ◌≡◌, Bool, cond, not, take, drop, set}
+use Rattle.std.specs.Prelude.{ℕ, suc, ◌+◌, ◌*◌, ◌-◌, ◌/◌, ◌%◌, ◌^◌, ◌<◌, ◌≤◌, ◌≡◌, Bool, cond, not, take, drop}
 use native.Mathlib.Omega.{arith}
-use Rattle.std.proofs.Common.{add-one, ◌∙◌, Fits, length-set, drop_of_length-le, drop-cons, take_all, take-suc, take-take, length-take-le, get_or-take}
+use Rattle.std.proofs.Common.{add-one, ◌∙◌, Fits, drop_of_length-le, drop-cons, get_or-take}
 use Rattle.std.proofs.Math.Path.{refl, ap, sym}
 use Rattle.std.proofs.Math.Logic.{⊎_elim}
 use Rattle.std.proofs.Math.Bool.{true, false}
 use mathlib.Core.List.Memᴰ
-use mathlib.Core.List.{List, [], ◌∷◌, map, map-append}
+use mathlib.Core.List.{List, [], ◌∷◌, map}
 use Rattle.std.specs.Int.{w64}
 use Rattle.std.proofs.Math.ListN.{length}
 use Rattle.std.proofs.Math.Dec.{eqb, ltb}
 use borrow.Author.Tests.{ltb-true, ltb-false, lt-ltb, le-ltb, eq-eqb, ne_eqb, eqb-true, eqb-false}
-use Rattle.lists.specs.Lists.{◌∈◌, any, keep, ◌!◌, Below}
+use Rattle.lists.specs.Lists.{◌∈◌, keep, ◌!◌, Below}
 use Rattle.lists.specs.Order.{same}
-use Rattle.lists.proofs.Laws.Lists.{in-cons, in_take, keep-none, map-take}
-use Rattle.lists.proofs.Laws.OneMore.{stored_last}
+use Rattle.lists.proofs.Laws.Lists.{in-cons, keep-none}
 use Rattle.lists.proofs.Laws.Places.{at_place, map_at}
 use Rattle.keys.specs.Keys.{keys_rise, place_of}
-use Rattle.keys.specs.Laws.Keys.{rise-cons, place-within, search-hit, search-on, search-past}
-use Rattle.edge_runs.specs.Runs.{run_of, lowest, targets_at, Starts, Lookup, has_targets}
+use Rattle.keys.specs.Laws.Keys.{rise-cons, place-within}
+use Rattle.edge_runs.specs.Runs.{run_of, lowest, targets_at, Starts}
 
 -- # Numbers that fit, as code makes them of a node and a name
 module _ (numbers : List ℕ) (i : ℕ) (below : Below (2 ^ 16) numbers) (l : i < length numbers) where
@@ -52,33 +51,6 @@ pub record Finding (edges numbers : List ℕ) (name : ℕ) (before starts : List
   pub as_long : length starts ≡ length before
   pub found : take i starts ≡ map (λ n. place_of (run_of name n * 2 ^ 16) edges) (take i numbers)
 
-module _ (edges numbers : List ℕ) (name : ℕ) (before : List ℕ) where
-  pub finding-none : Finding edges numbers name before before 0
-  finding-none = record { reached = omega arith; as_long = refl; found = refl }
-
-  module _ (starts : List ℕ) (i : ℕ) (h : Finding edges numbers name before starts i) (room : length numbers ≤ length before) where
-    pub finding-more : i < length numbers → (start : ℕ) → start ≡ place_of ((numbers ! i * 2 ^ 6 + name) * 2 ^ 16) edges
-        → Finding edges numbers name before (set starts i start) (i + 1)
-    finding-more l start e =
-        let as_long = h.as_long in
-        record {
-          reached = omega arith;
-          as_long = simp length-set as_long;
-          found = stored_last starts i start (omega arith)
-              ∙ rw (h.found, e, add-one, take-suc numbers i 0 l, map-append);
-        }
-
-    pub finding-all : length numbers ≤ i → Starts edges numbers name starts
-    finding-all past =
-        let all : i ≡ length numbers = (let r = h.reached in omega arith) in
-        let as_long = h.as_long in
-        record {
-          room = omega arith;
-          places = ap (λ (n : ℕ). take n starts) (sym all)
-              ∙ h.found
-              ∙ ap (map (λ n. place_of (run_of name n * 2 ^ 16) edges)) (take_all i numbers past);
-        }
-
 -- where the run of one of the nodes begins
 pub start-at : (edges numbers : List ℕ) (name : ℕ) (starts : List ℕ) (i : ℕ) → Starts edges numbers name starts → i < length numbers
     → starts ! i ≡ place_of ((numbers ! i * 2 ^ 6 + name) * 2 ^ 16) edges
@@ -86,30 +58,6 @@ start-at edges numbers name starts i h l =
     sym (get_or-take (length numbers) starts i 0 l)
     ∙ ap (λ (ks : List ℕ). ks ! i) h.places
     ∙ map_at (λ n. place_of (run_of name n * 2 ^ 16) edges) numbers i l
-
--- # The first nodes
-starts-front : (edges numbers : List ℕ) (name : ℕ) (starts : List ℕ) (i : ℕ) → i < length numbers → Starts edges numbers name starts
-    → Starts edges (take i numbers) name starts
-starts-front edges numbers name starts i l h =
-    let e : length (take i numbers) ≡ i = length-take-le i numbers (omega arith) in
-    let room = h.room in
-    record {
-      room = omega arith;
-      places = ap (λ (n : ℕ). take n starts) e
-          ∙ sym (take-take i (length numbers) starts (omega arith))
-          ∙ ap (take i) h.places
-          ∙ sym (map-take (λ n. place_of (run_of name n * 2 ^ 16) edges) i numbers);
-    }
-
-pub lookup-front : (edges numbers : List ℕ) (name : ℕ) (starts : List ℕ) (i : ℕ) → i < length numbers → Lookup edges numbers name starts
-    → Lookup edges (take i numbers) name starts
-lookup-front edges numbers name starts i l h =
-    record {
-      rise = h.rise;
-      below = λ k j. h.below k (in_take i numbers j);
-      named = h.named;
-      found = starts-front edges numbers name starts i l h.found;
-    }
 
 -- # What is left of a run
 abbrev of_run : ℕ → ℕ → Bool
@@ -240,63 +188,55 @@ module _ (edges numbers : List ℕ) (name : ℕ) (starts : List ℕ) (i end : �
   pub part-targets : map lowest (take (end - starts ! i) (drop (starts ! i) edges)) ≡ targets_at edges (numbers ! i * 2 ^ 6 + name)
   part-targets = rw (start-at edges numbers name starts i h l, e) (run-part (numbers ! i * 2 ^ 6 + name) edges rise)
 
--- # Whether a run has just the targets, by what is left of the edges from `at` on and of the keys from i on
-pub record Compares (edges : List ℕ) (run : ℕ) (keys : List ℕ) (at i : ℕ) : Type 0 where
-  pub left : Left run (drop at edges)
-  pub compared : same (targets_at edges run) (map lowest keys) ≡ same (targets_at (drop at edges) run) (map lowest (drop i keys))
+-- # Whether a run has just the targets, by the edges that are left and the keys from i on
+pub record Compares (edges : List ℕ) (run : ℕ) (keys rest : List ℕ) (i : ℕ) : Type 0 where
+  pub left : Left run rest
+  pub compared : same (targets_at edges run) (map lowest keys) ≡ same (targets_at rest run) (map lowest (drop i keys))
+
+pub start-within : (edges : List ℕ) (run start : ℕ) → start ≡ place_of (run * 2 ^ 16) edges → start ≤ length edges
+start-within edges run start e = rw e (place-within (run * 2 ^ 16) edges)
 
 module _ (edges : List ℕ) (run : ℕ) (keys : List ℕ) where
-  pub compares-start : (start : ℕ) → keys_rise edges ≡ true → start ≡ place_of (run * 2 ^ 16) edges → Compares edges run keys start 0
+  pub compares-start : (start : ℕ) → keys_rise edges ≡ true → start ≡ place_of (run * 2 ^ 16) edges → Compares edges run keys (drop start edges) 0
   compares-start start h e =
       let r = from_place run edges h in
       rw e (record { left = r.0; compared = ap (λ (l : List ℕ). same l (map lowest keys)) r.1 })
 
-  module _ (at i : ℕ) (h : Compares edges run keys at i) where
-    nothing_left : length edges ≤ at → targets_at (drop at edges) run ≡ []
-    nothing_left past = rw (drop_of_length-le edges past) (run-nothing run)
-
-    first-left : at < length edges → Left run (edges ! at ∷ drop (suc at) edges)
-    first-left l = rw (drop-cons edges at 0 l) at h.left
-
-    pub too_short : i < length keys → length edges ≤ at → false ≡ same (targets_at edges run) (map lowest keys)
-    too_short l past = sym (h.compared ∙ rw (nothing_left past, drop-cons keys i 0 l))
-
-    pub target-differs : i < length keys → at < length edges → (edges ! at ≡ run * 2 ^ 16 + keys ! i % 2 ^ 16 → ⊥)
-        → false ≡ same (targets_at edges run) (map lowest keys)
-    target-differs l m d =
-        sym (h.compared ∙ rw (drop-cons keys i 0 l, drop-cons edges at 0 m)
-        (run-differs run (edges ! at) (lowest (keys ! i)) (drop (suc at) edges) (map lowest (drop (suc i) keys)) (first-left m) (omega arith) d))
-
-    pub target-same : i < length keys → at < length edges → edges ! at ≡ run * 2 ^ 16 + keys ! i % 2 ^ 16 → Compares edges run keys (at + 1) (i + 1)
-    target-same l m e =
-        let q : edges ! at / 2 ^ 16 ≡ run = omega arith in
-        let t : lowest (edges ! at) ≡ lowest (keys ! i) = omega arith in
-        rw (add-one at, add-one i) (record {
-          left = left-rest run (edges ! at) (drop (suc at) edges) (first-left m);
-          compared = h.compared
-              ∙ rw (drop-cons keys i 0 l, drop-cons edges at 0 m, run-goes-on run (edges ! at) (drop (suc at) edges) q, eq-eqb _ _ t);
-        })
-
-    pub edges-over : length keys ≤ i → length edges ≤ at → true ≡ same (targets_at edges run) (map lowest keys)
-    edges-over l past = sym (h.compared ∙ rw (nothing_left past, drop_of_length-le keys l))
-
-    pub run_ends : length keys ≤ i → at < length edges → not (eqb (edges ! at / 2 ^ 16) run) ≡ same (targets_at edges run) (map lowest keys)
-    run_ends l m = sym (h.compared ∙ rw (drop_of_length-le keys l, drop-cons edges at 0 m) (go (eqb (edges ! at / 2 ^ 16) run) refl))
+  module _ (rest : List ℕ) (i : ℕ) (h : Compares edges run keys rest i) where
+    none_left : length rest ≡ 0 → rest ≡ []
+    none_left = go rest
       where
-        go : (b : Bool) → eqb (edges ! at / 2 ^ 16) run ≡ b → same (targets_at (edges ! at ∷ drop (suc at) edges) run) [] ≡ not b
-        go true e = rw (run-goes-on run (edges ! at) (drop (suc at) edges) (eqb-true _ _ e))
-        go false e = rw (run-over run (edges ! at) (drop (suc at) edges) (first-left m) (eqb-false _ _ e))
+        go : (ks : List ℕ) → length ks ≡ 0 → ks ≡ []
+        go [] e = refl
+        go (k ∷ ks) e = absurd (omega arith)
 
--- # Whether one of the nodes has just the targets, by those from i on
-module _ (edges numbers : List ℕ) (name : ℕ) (keys : List ℕ) (i : ℕ) where
-  module _ (o : Bool) (l : i < length numbers) (e : o ≡ same (targets_at edges (numbers ! i * 2 ^ 6 + name)) (map lowest keys)) where
-    pub one_has : o ≡ true → true ≡ any (has_targets edges name keys) numbers
-    one_has h = search-hit (has_targets edges name keys) numbers i l (sym e ∙ h)
+    pub too_short : i < length keys → length rest ≡ 0 → false ≡ same (targets_at edges run) (map lowest keys)
+    too_short l none = sym (h.compared ∙ rw (none_left none, run-nothing run, drop-cons keys i 0 l))
 
-    pub one-lacks : o ≡ false → any (has_targets edges name keys) numbers ≡ any (has_targets edges name keys) (drop i numbers)
-        → any (has_targets edges name keys) numbers ≡ any (has_targets edges name keys) (drop (i + 1) numbers)
-    one-lacks h = search-on (has_targets edges name keys) numbers i l (sym e ∙ h)
+    pub edges-over : length keys ≤ i → length rest ≡ 0 → true ≡ same (targets_at edges run) (map lowest keys)
+    edges-over l none = sym (h.compared ∙ rw (none_left none, run-nothing run, drop_of_length-le keys l))
 
-  pub none_has : length numbers ≤ i → any (has_targets edges name keys) numbers ≡ any (has_targets edges name keys) (drop i numbers)
-      → false ≡ any (has_targets edges name keys) numbers
-  none_has = search-past (has_targets edges name keys) numbers i
+    module _ (edge : ℕ) (more : List ℕ) (next : rest ≡ edge ∷ more) where
+      first-left : Left run (edge ∷ more)
+      first-left = rw next at h.left
+
+      pub target-differs : i < length keys → (edge ≡ run * 2 ^ 16 + keys ! i % 2 ^ 16 → ⊥) → false ≡ same (targets_at edges run) (map lowest keys)
+      target-differs l d =
+          sym (h.compared ∙ rw (next, drop-cons keys i 0 l)
+          (run-differs run edge (lowest (keys ! i)) more (map lowest (drop (suc i) keys)) first-left (omega arith) d))
+
+      pub target-same : i < length keys → edge ≡ run * 2 ^ 16 + keys ! i % 2 ^ 16 → Compares edges run keys more (i + 1)
+      target-same l e =
+          let q : edge / 2 ^ 16 ≡ run = omega arith in
+          let t : lowest edge ≡ lowest (keys ! i) = omega arith in
+          rw (add-one i) (record {
+            left = left-rest run edge more first-left;
+            compared = h.compared ∙ rw (next, drop-cons keys i 0 l, run-goes-on run edge more q, eq-eqb _ _ t);
+          })
+
+      pub run_ends : length keys ≤ i → not (eqb (edge / 2 ^ 16) run) ≡ same (targets_at edges run) (map lowest keys)
+      run_ends l = sym (h.compared ∙ rw (next, drop_of_length-le keys l) (go (eqb (edge / 2 ^ 16) run) refl))
+        where
+          go : (b : Bool) → eqb (edge / 2 ^ 16) run ≡ b → same (targets_at (edge ∷ more) run) [] ≡ not b
+          go true e = rw (run-goes-on run edge more (eqb-true _ _ e))
+          go false e = rw (run-over run edge more first-left (eqb-false _ _ e))

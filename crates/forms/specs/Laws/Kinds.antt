@@ -1,51 +1,80 @@
--- The table of kinds: its forms as the code has them, what holds of each kind, and the keys of drawing files and rule texts in it.
--- What holds of each kind is a test that antt computes over the whole table, and one law that gives it at a kind.
-use Rattle.std.specs.Prelude.{ℕ, zero, suc, ◌+◌, ◌-◌, ◌^◌, ◌<◌, ◌≤◌, ◌≡◌, refl, Bool, true, false, not, ◌&&◌, List, [], ◌∷◌, ◌++◌, map, length, take, drop, ltb}
-use Rattle.std.proofs.Common.{arith, ◌∙◌, get_or-take, get_or-append-add, le-leb, leb-true}
+-- The table of kinds: what holds of each kind, and the keys of drawing files and rule texts in it.
+-- What holds of each kind is a test that antt computes over all of them, and one law that gives it at a kind.
+use Rattle.std.specs.Prelude.{ℕ, zero, suc, ◌+◌, ◌^◌, ◌<◌, ◌≤◌, ◌≡◌, refl, Bool, true, false, not, ◌&&◌, List, [], ◌∷◌, ◌++◌, map, length, take, drop, ltb, Option, Some}
+use Rattle.std.proofs.Common.{arith, ◌∙◌, get_or-take, leb-true}
 use Rattle.std.proofs.Math.Path.{ap, sym}
 use Rattle.std.proofs.lemmas.Bool.{false≢true}
-use Rattle.std.proofs.Math.Option.{Option, none, some}
-use Rattle.std.proofs.Math.ListN.{get_or, get_or-map, get_or-append}
+use Rattle.std.proofs.Math.ListN.{get_or, get_or-append}
 use Rattle.std.proofs.lemmas.List.{length-map}
 use Rattle.std.proofs.Math.Seq.{take-append_seam}
 use Rattle.std.proofs.Math.Dec.{leb}
-use Rattle.lists.specs.Lists.{all, count_from, ◌!◌}
+use Rattle.lists.specs.Lists.{all, find, ◌!◌}
 use Rattle.lists.specs.Order.{same}
 use Rattle.lists.specs.Radix.{product, within, lowest}
-use Rattle.lists.proofs.Laws.Lists.{both, less, at_most, not_so, all-members, in_count}
+use Rattle.lists.proofs.Laws.Lists.{both, less, at_most, not_so, all-members}
 use Rattle.lists.proofs.Laws.Order.{same-list}
-use Rattle.lists.proofs.Laws.Places.{at_place, get_d-inside, count_at}
-use Rattle.lists.proofs.Laws.Apart.{apart-determined}
+use Rattle.lists.proofs.Laws.Apart.{found-member}
 use Rattle.lists.proofs.Laws.Count.{within-cons, within-length}
 use Rattle.model.specs.Files.{full}
 use Rattle.model.specs.Files.DrawingFile.{DrawingKey, class=, name=, may=, node=, edge=, drawing_form}
 use Rattle.model.specs.Files.RuleText.{RuleKey, op=, pnode=, pedge=, make=, arm=, put=, drop=, cut=, group=, rule_form}
-use Rattle.model.specs.Files.RuleText.{rule_keys}
-use Rattle.model.specs.Files.DrawingFile.{drawing_keys}
-use Rattle.forms.specs.Forms.{Kind, drawing_kind, rule_kind, first_rule_kind, kind_count, kinds, kind_at, key_number, most_numbers, padded, or_zero, packed_form}
+use Rattle.forms.specs.Forms.{Kind, drawing_kind, rule_kind, drawing_kinds, rule_kinds, of_drawing, turn_of, kind_of, key_number, most_numbers, padded, packed_form}
 use Rattle.forms.specs.Forms.{drawing_key, rule_key}
 use Rattle.forms.specs.Laws.KeyNumbers.{Bytes, bytes-tested}
 use Rattle.forms.specs.declared.Form.{Form as PackedForm}
+use Rattle.forms.specs.declared.LineKind.{LineKind}
+use Rattle.forms.specs.declared.LineKind.TheVariants.{Class, Name, May, Node, Edge, Op, Pnode, Pedge, Make, Arm, Put, Drop, Cut, Group}
 
--- a test that all members pass is passed at each place
-all-at : {A : Type 0} (p : A → Bool) (xs : List A) (i : ℕ) (d : A) → all p xs ≡ true → i < length xs → p (get_or xs i d) ≡ true
-all-at p xs i d t h = (all-members p xs).0 t (get_or xs i d) (at_place xs i d h)
+-- # What holds of each kind
+abbrev all_kinds : List LineKind
+all_kinds = drawing_kinds ++ rule_kinds
 
--- # The table
-pub form-known : (k kind : ℕ) → kind ≡ k → packed_form (kind_at k) ≡ packed_form (kind_at kind)
-form-known k kind e = ap (λ n. packed_form (kind_at n)) (sym e)
+-- the kind that has the key
+abbrev keyed : List ℕ → Option LineKind
+keyed key = find (λ k. same (kind_of k).form.key key) all_kinds
 
--- a kind that is none of the first n, and so, of all but the last, the last
-abbrev NoneBelow : ℕ → ℕ → Type 0
-NoneBelow zero kind = Unit {0}
-NoneBelow (suc n) kind = NoneBelow n kind × (kind ≡ n → ⊥)
+kind-keyed : (kind : LineKind) → keyed (kind_of kind).form.key ≡ Some kind
+unfolding kind_of
+kind-keyed Class = refl
+kind-keyed Name = refl
+kind-keyed May = refl
+kind-keyed Node = refl
+kind-keyed Edge = refl
+kind-keyed Op = refl
+kind-keyed Pnode = refl
+kind-keyed Pedge = refl
+kind-keyed Make = refl
+kind-keyed Arm = refl
+kind-keyed Put = refl
+kind-keyed Drop = refl
+kind-keyed Cut = refl
+kind-keyed Group = refl
 
-none_below : (n kind : ℕ) → NoneBelow n kind → n ≤ kind
-none_below zero kind h = omega arith
-none_below (suc n) kind h = omega (arith, none_below n kind h.0, h.1)
+-- a kind stands among all at its turn, which is that of no other
+kind-placed : (kind : LineKind) → get_or all_kinds (turn_of kind) Class ≡ kind
+kind-placed Class = refl
+kind-placed Name = refl
+kind-placed May = refl
+kind-placed Node = refl
+kind-placed Edge = refl
+kind-placed Op = refl
+kind-placed Pnode = refl
+kind-placed Pedge = refl
+kind-placed Make = refl
+kind-placed Arm = refl
+kind-placed Put = refl
+kind-placed Drop = refl
+kind-placed Cut = refl
+kind-placed Group = refl
 
-pub last-kind : (kind : ℕ) → kind < kind_count → NoneBelow 13 kind → kind ≡ 13
-last-kind kind l h = omega (arith, l, none_below 13 kind h)
+pub turns-apart : (i j : LineKind) → turn_of i ≡ turn_of j → i ≡ j
+turns-apart i j e = sym (kind-placed i) ∙ ap (λ n. get_or all_kinds n Class) e ∙ kind-placed j
+
+-- a test that all kinds pass
+of-each : (p : Kind → Bool) → all (λ k. p (kind_of k)) all_kinds ≡ true → (kind : LineKind) → p (kind_of kind) ≡ true
+of-each p t kind =
+    let named = λ (k : LineKind). same (kind_of k).form.key (kind_of kind).form.key in
+    (all-members (λ k. p (kind_of k)) all_kinds).0 t kind (found-member named all_kinds (kind-keyed kind)).0
 
 within_wider : (bs rs ns : List ℕ) → within (map suc rs) bs ≡ true → within bs ns ≡ true → within rs ns ≡ true
 within_wider [] [] ns h w = w
@@ -96,35 +125,32 @@ roomy-kind k h =
       one-may-stand = t.1.1.1.1.1;
     }
 
-pub kind-roomy : (kind : ℕ) → kind < kind_count → Roomy (kind_at kind)
-unfolding kinds kind_at
-kind-roomy kind h = roomy-kind (kind_at kind) (all-at roomy kinds kind (drawing_kind class=) refl h)
+pub kind-roomy : (kind : LineKind) → Roomy (kind_of kind)
+unfolding kind_of
+kind-roomy kind = roomy-kind (kind_of kind) (of-each roomy refl kind)
 
 -- a key has at most 5 bytes, and belongs to no other kind
 abbrev spelled : Kind → Bool
 spelled k = all (λ b. ltb b 256) k.form.key && leb (length k.form.key) 5
 
-pub kind-spelled : (kind : ℕ) → kind < kind_count → Bytes (kind_at kind).form.key × (length (kind_at kind).form.key ≤ 5)
-unfolding kinds kind_at
-kind-spelled kind h =
-    let key = (kind_at kind).form.key in
-    let t = (both (all (λ b. ltb b 256) key) (leb (length key) 5)).0 (all-at spelled kinds kind (drawing_kind class=) refl h) in
+pub kind-spelled : (kind : LineKind) → Bytes (kind_of kind).form.key × (length (kind_of kind).form.key ≤ 5)
+unfolding kind_of
+kind-spelled kind =
+    let key = (kind_of kind).form.key in
+    let t = (both (all (λ b. ltb b 256) key) (leb (length key) 5)).0 (of-each spelled refl kind) in
     (bytes-tested key t.0, leb-true (length key) 5 t.1)
 
 -- a key's bytes are the digits of its number
-pub kind-written : (kind : ℕ) → kind < kind_count
-    → lowest 256 0 (length (kind_at kind).form.key) (key_number (kind_at kind).form.key) ≡ (kind_at kind).form.key
-unfolding kinds kind_at lowest key_number
-kind-written kind h =
-    let key = (kind_at kind).form.key in
+pub kind-written : (kind : LineKind)
+    → lowest 256 0 (length (kind_of kind).form.key) (key_number (kind_of kind).form.key) ≡ (kind_of kind).form.key
+unfolding kind_of lowest key_number
+kind-written kind =
+    let key = (kind_of kind).form.key in
     (same-list (lowest 256 0 (length key) (key_number key)) key).0
-    (all-at (λ k. same (lowest 256 0 (length k.form.key) (key_number k.form.key)) k.form.key) kinds kind (drawing_kind class=) refl h)
+    (of-each (λ k. same (lowest 256 0 (length k.form.key) (key_number k.form.key)) k.form.key) refl kind)
 
-pub keys-apart : (i j : ℕ) → i < kind_count → j < kind_count → (kind_at i).form.key ≡ (kind_at j).form.key → i ≡ j
-unfolding kinds kind_at
-keys-apart i j h k =
-    apart-determined (λ n. (kind_at n).form.key) (count_from 0 kind_count) refl ((in_count 0 kind_count i).1 (omega arith, h))
-    ((in_count 0 kind_count j).1 (omega arith, k))
+pub keys-apart : (i j : LineKind) → (kind_of i).form.key ≡ (kind_of j).form.key → i ≡ j
+keys-apart i j k = let one : Some i ≡ Some j = sym (kind-keyed i) ∙ ap keyed k ∙ kind-keyed j in cc
 
 -- # Numbers of a form, in an array of four
 pub padded-at : (ns : List ℕ) (i : ℕ) → length ns ≤ most_numbers → i < length ns → get_or (padded ns) i 0 ≡ get_or ns i 0
@@ -141,56 +167,55 @@ filled (a ∷ b ∷ c ∷ d ∷ e ∷ ns) h = absurd (omega arith)
 pub padded-front : (ns : List ℕ) → length ns ≤ most_numbers → take (length ns) (padded ns) ≡ ns
 padded-front ns h = ap (take (length ns)) (sym (filled ns h)) ∙ take-append_seam ns (drop (length ns) (0 ∷ 0 ∷ 0 ∷ 0 ∷ []))
 
-module _ (kind : ℕ) (h : kind < kind_count) {form : PackedForm} (made : form ≡ packed_form (kind_at kind)) where
-  pub form-numbers : form.numbers ≡ length (kind_at kind).rooms
+module _ (kind : LineKind) {form : PackedForm} (made : form ≡ packed_form (kind_of kind)) where
+  pub form-numbers : form.numbers ≡ length (kind_of kind).rooms
   unfolding packed_form
-  form-numbers = ap (λ f. f.numbers) made ∙ sym (kind-roomy kind h).as_many
+  form-numbers = ap (λ f. f.numbers) made ∙ sym (kind-roomy kind).as_many
 
   pub form-few : form.numbers ≤ most_numbers
-  form-few = let k = kind-roomy kind h in omega (arith, form-numbers, k.as_many, k.few)
+  form-few = let k = kind-roomy kind in omega (arith, form-numbers, k.as_many, k.few)
 
-  pub form-room : (i : ℕ) → i < form.numbers → get_or form.room i 0 ≡ get_or (kind_at kind).rooms i 0
+  pub form-room : (i : ℕ) → i < form.numbers → get_or form.room i 0 ≡ get_or (kind_of kind).rooms i 0
   unfolding packed_form
   form-room i l =
-      let k = kind-roomy kind h in
+      let k = kind-roomy kind in
       ap (λ f. get_or f.room i 0) made
-      ∙ padded-at (kind_at kind).rooms i (omega (arith, k.few, k.as_many)) (omega (arith, form-numbers))
-
--- # How many lines may stand
-full-unlimited : (most : Option ℕ) (above : ℕ) → full most 0 ≡ false → or_zero most ≡ 0 → full most above ≡ false
-full-unlimited none above h e = refl
-full-unlimited (some m) above h e = absurd (false≢true (sym h ∙ le-leb m 0 (omega arith)))
-
-full-limited : (most : Option ℕ) (above : ℕ) → (or_zero most ≡ 0 → ⊥) → full most above ≡ leb (or_zero most) above
-full-limited none above e = absurd (e refl)
-full-limited (some m) above e = refl
-
-module _ (kind above : ℕ) (h : kind < kind_count) (f : PackedForm) (made : f ≡ packed_form (kind_at kind)) where
-  pub crowded-unlimited : f.most ≡ 0 → false ≡ full (kind_at kind).form.most above
-  unfolding packed_form
-  crowded-unlimited e = sym (full-unlimited (kind_at kind).form.most above (kind-roomy kind h).one-may-stand (sym (ap (λ g. g.most) made) ∙ e))
-
-  pub crowded-limited : (f.most ≡ 0 → ⊥) → leb f.most above ≡ full (kind_at kind).form.most above
-  unfolding packed_form
-  crowded-limited e =
-      let most = ap (λ g. g.most) made in
-      ap (λ m. leb m above) most ∙ sym (full-limited (kind_at kind).form.most above (λ o. e (most ∙ o)))
+      ∙ padded-at (kind_of kind).rooms i (omega (arith, k.few, k.as_many)) (omega (arith, form-numbers))
 
 -- # The keys of a drawing file, and those of a rule text
-pub drawing-kind : (kind : ℕ) → kind < first_rule_kind → kind_at kind ≡ drawing_kind (drawing_key kind)
-unfolding kinds kind_at
-drawing-kind kind h =
-    get_or-append (map drawing_kind drawing_keys) (map rule_kind rule_keys) (drawing_kind class=) kind h
-    ∙ get_or-map drawing_kind drawing_keys kind class=
+pub drawing-kind : (kind : LineKind) → of_drawing kind ≡ true → kind_of kind ≡ drawing_kind (drawing_key kind)
+unfolding kind_of
+drawing-kind Class h = refl
+drawing-kind Name h = refl
+drawing-kind May h = refl
+drawing-kind Node h = refl
+drawing-kind Edge h = refl
+drawing-kind Op h = absurd (false≢true h)
+drawing-kind Pnode h = absurd (false≢true h)
+drawing-kind Pedge h = absurd (false≢true h)
+drawing-kind Make h = absurd (false≢true h)
+drawing-kind Arm h = absurd (false≢true h)
+drawing-kind Put h = absurd (false≢true h)
+drawing-kind Drop h = absurd (false≢true h)
+drawing-kind Cut h = absurd (false≢true h)
+drawing-kind Group h = absurd (false≢true h)
 
-pub rule-kind : (kind : ℕ) → first_rule_kind ≤ kind → kind < kind_count → kind_at kind ≡ rule_kind (rule_key kind)
-unfolding kinds kind_at
-rule-kind kind l h =
-    let from : kind ≡ first_rule_kind + (kind - first_rule_kind) = omega arith in
-    ap (λ k. get_or kinds k (drawing_kind class=)) from
-    ∙ get_or-append-add (map drawing_kind drawing_keys) (map rule_kind rule_keys) (kind - first_rule_kind) (drawing_kind class=)
-    ∙ get_d-inside (map rule_kind rule_keys) (kind - first_rule_kind) (drawing_kind class=) (rule_kind op=) (omega arith)
-    ∙ get_or-map rule_kind rule_keys (kind - first_rule_kind) op=
+pub rule-kind : (kind : LineKind) → of_drawing kind ≡ false → kind_of kind ≡ rule_kind (rule_key kind)
+unfolding kind_of
+rule-kind Class h = absurd (false≢true (sym h))
+rule-kind Name h = absurd (false≢true (sym h))
+rule-kind May h = absurd (false≢true (sym h))
+rule-kind Node h = absurd (false≢true (sym h))
+rule-kind Edge h = absurd (false≢true (sym h))
+rule-kind Op h = refl
+rule-kind Pnode h = refl
+rule-kind Pedge h = refl
+rule-kind Make h = refl
+rule-kind Arm h = refl
+rule-kind Put h = refl
+rule-kind Drop h = refl
+rule-kind Cut h = refl
+rule-kind Group h = refl
 
 drawing-kind-form : (k : DrawingKey) → (drawing_kind k).form ≡ drawing_form k
 drawing-kind-form class= = refl
@@ -210,18 +235,41 @@ rule-kind-form drop= = refl
 rule-kind-form cut= = refl
 rule-kind-form group= = refl
 
-pub drawing-form : (kind : ℕ) → kind < first_rule_kind → (kind_at kind).form ≡ drawing_form (drawing_key kind)
+pub drawing-form : (kind : LineKind) → of_drawing kind ≡ true → (kind_of kind).form ≡ drawing_form (drawing_key kind)
 drawing-form kind h = ap (λ k. k.form) (drawing-kind kind h) ∙ drawing-kind-form (drawing_key kind)
 
-pub rule-form : (kind : ℕ) → first_rule_kind ≤ kind → kind < kind_count → (kind_at kind).form ≡ rule_form (rule_key kind)
-rule-form kind l h = ap (λ k. k.form) (rule-kind kind l h) ∙ rule-kind-form (rule_key kind)
+pub rule-form : (kind : LineKind) → of_drawing kind ≡ false → (kind_of kind).form ≡ rule_form (rule_key kind)
+rule-form kind h = ap (λ k. k.form) (rule-kind kind h) ∙ rule-kind-form (rule_key kind)
 
--- a key's turn is its place among the keys
-pub drawing-turn : (kind : ℕ) → kind < first_rule_kind → (drawing_form (drawing_key kind)).turn ≡ kind
-drawing-turn kind h =
-    sym (get_or-map (λ k. (drawing_form k).turn) drawing_keys kind class=) ∙ count_at 0 5 kind 0 h ∙ omega arith
+-- a key's turn is its kind's among those of its format
+pub drawing-turn : (kind : LineKind) → of_drawing kind ≡ true → (drawing_form (drawing_key kind)).turn ≡ turn_of kind
+drawing-turn Class h = refl
+drawing-turn Name h = refl
+drawing-turn May h = refl
+drawing-turn Node h = refl
+drawing-turn Edge h = refl
+drawing-turn Op h = absurd (false≢true h)
+drawing-turn Pnode h = absurd (false≢true h)
+drawing-turn Pedge h = absurd (false≢true h)
+drawing-turn Make h = absurd (false≢true h)
+drawing-turn Arm h = absurd (false≢true h)
+drawing-turn Put h = absurd (false≢true h)
+drawing-turn Drop h = absurd (false≢true h)
+drawing-turn Cut h = absurd (false≢true h)
+drawing-turn Group h = absurd (false≢true h)
 
-pub rule-turn : (kind : ℕ) → first_rule_kind ≤ kind → kind < kind_count → (rule_form (rule_key kind)).turn ≡ kind - first_rule_kind
-rule-turn kind l h =
-    sym (get_or-map (λ k. (rule_form k).turn) rule_keys (kind - first_rule_kind) op=)
-    ∙ count_at 0 9 (kind - first_rule_kind) 0 (omega arith) ∙ omega arith
+pub rule-turn : (kind : LineKind) → of_drawing kind ≡ false → (rule_form (rule_key kind)).turn + 5 ≡ turn_of kind
+rule-turn Class h = absurd (false≢true (sym h))
+rule-turn Name h = absurd (false≢true (sym h))
+rule-turn May h = absurd (false≢true (sym h))
+rule-turn Node h = absurd (false≢true (sym h))
+rule-turn Edge h = absurd (false≢true (sym h))
+rule-turn Op h = refl
+rule-turn Pnode h = refl
+rule-turn Pedge h = refl
+rule-turn Make h = refl
+rule-turn Arm h = refl
+rule-turn Put h = refl
+rule-turn Drop h = refl
+rule-turn Cut h = refl
+rule-turn Group h = refl

@@ -1,8 +1,7 @@
 -- Keys of triples and of nodes: they rise as what they stand for does, a key is joined as its triple is, and a node is found by its number.
 -- By the order of packed triples, and by where the least key of a number stands.
-use Rattle.std.specs.Prelude.{ℕ, ◌*◌, ◌/◌, ◌^◌, ◌<◌, ◌≡◌, refl, Bool, true, false, cond, List, [], ◌∷◌, map, length, eqb, ltb}
+use Rattle.std.specs.Prelude.{ℕ, ◌*◌, ◌/◌, ◌^◌, ◌<◌, ◌≡◌, refl, Bool, true, false, cond, List, [], ◌∷◌, map, length, eqb, ltb, None, Some}
 use Rattle.std.proofs.Common.{arith, ap, ◌∙◌, sym, ltb-true, lt-ltb, eq-eqb, ne_eqb}
-use Rattle.std.proofs.Math.Option.{none, some}
 use Rattle.std.proofs.lemmas.Simd.{map-map}
 use Rattle.lists.specs.Lists.{find, ◌!◌}
 use Rattle.lists.specs.Order.{before, rising}
@@ -59,7 +58,7 @@ module _ (number : ℕ) where
   numbered n = eqb n.number number
 
   first-numbered : {ks : List ℕ} {n : ℕ} → Stands least ks n → n < length ks → (ks ! n) / 2 ^ 38 ≡ number
-      → some (unpack_node (ks ! n)) ≡ find numbered (map unpack_node ks)
+      → Some (unpack_node (ks ! n)) ≡ find numbered (map unpack_node ks)
   first-numbered (here [] a r) l e = absurd (omega arith)
   first-numbered (here (x ∷ ks) a r) l e = rw (eq-eqb (x / 2 ^ 38) number e)
   first-numbered (later {x} b s) l e = rw (ne_eqb (x / 2 ^ 38) number (omega arith)) (first-numbered s (omega arith) e)
@@ -68,10 +67,10 @@ module _ (number : ℕ) where
     least-placed : Stands least ks at
     least-placed = placed ks least (rising-numbers ks rise) at place
 
-    pub node-found : at < length ks → (ks ! at) / 2 ^ 38 ≡ number → some (unpack_node (ks ! at)) ≡ find numbered (map unpack_node ks)
+    pub node-found : at < length ks → (ks ! at) / 2 ^ 38 ≡ number → Some (unpack_node (ks ! at)) ≡ find numbered (map unpack_node ks)
     node-found = first-numbered least-placed
 
-    pub node-missed : (at < length ks → (ks ! at) / 2 ^ 38 ≡ number → ⊥) → none ≡ find numbered (map unpack_node ks)
+    pub node-missed : (at < length ks → (ks ! at) / 2 ^ 38 ≡ number → ⊥) → None ≡ find numbered (map unpack_node ks)
     node-missed h =
         sym ((finds-none numbered (map unpack_node ks)).1 (λ n i.
         let m = (in_map unpack_node ks).0 i in

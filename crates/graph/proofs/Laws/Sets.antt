@@ -1,7 +1,7 @@
 -- Declared numbers as sets of bits: which are declared, of which kind, one more above all, how many, and their rows in turn. The declared numbers
 -- below k + 1 are those below k, and then k if its bit is set: the laws follow from those of a number's binary digits, by induction on k.
 use Rattle.std.specs.Prelude.{ℕ, zero, suc, ◌+◌, ◌-◌, ◌*◌, ◌/◌, ◌%◌, ◌^◌, ◌<◌, ◌≤◌, ◌≡◌, Bool, true, false, cond, ◌&&◌, List, [], ◌∷◌, ◌++◌, map, length, take, set, eqb, ltb}
-use Rattle.std.proofs.Common.{zero-le, sym, ap, ap₂, ◌∙◌, append-nil, mod-eq_of_lt, mod-lt, lt_of_lt_of_le, zero-add, add_comm, pow-suc, add-one, one-add, length-append, length-set, pow_pos, pow_mono, shl_exact, ltb-true, eqb-true, eq-eqb, ne_eqb}
+use Rattle.std.proofs.Common.{zero-le, sym, ap, ap₂, ◌∙◌, append-nil, mod-eq_of_lt, mod-lt, lt_of_lt_of_le, zero-add, add_comm, pow-suc, add-one, one-add, length-append, length-set, pow_pos, pow_mono, shl_exact, ltb-true, eqb-true, eq-eqb}
 use Rattle.std.proofs.Math.Path.{refl}
 use Rattle.std.proofs.Math.Bool.{and-true}
 use mathlib.Core.List.Memᴰ
@@ -91,11 +91,11 @@ module _ (d : Declarations) (kind n : ℕ) (in_limit : n < Limits.classes) where
       (λ c e. eqb-true c.number n ((both (eqb c.number n) (eqb c.kind kind)).0 e).0) in_limit
       ∙ rw (eq-eqb n n refl)
 
-  pub of_kind-declared : bit d.declared n ≡ 1 → eqb (bit d.second n) kind ≡ of_kind kind (unpack_declared d) n
-  of_kind-declared e = sym (of_kind-bits ∙ rw (eq-eqb (bit d.declared n) 1 e))
+  pub of_kind-declared : declares (unpack_declared d) n ≡ true → eqb (bit d.second n) kind ≡ of_kind kind (unpack_declared d) n
+  of_kind-declared e = sym (of_kind-bits ∙ rw (declares-bit d n in_limit ∙ e))
 
-  pub of_kind-undeclared : (bit d.declared n ≡ 1 → ⊥) → false ≡ of_kind kind (unpack_declared d) n
-  of_kind-undeclared e = sym (of_kind-bits ∙ rw (ne_eqb (bit d.declared n) 1 e))
+  pub of_kind-undeclared : declares (unpack_declared d) n ≡ false → false ≡ of_kind kind (unpack_declared d) n
+  of_kind-undeclared e = sym (of_kind-bits ∙ rw (declares-bit d n in_limit ∙ e))
 
 -- # Declared numbers below a number
 abbrev entry : Declarations → ℕ → List Declared
@@ -229,20 +229,20 @@ module _ (d : Declarations) (before : List ℕ) where
       record { few = omega arith; front = h.listed ∙ rw (all, declared_below-limit d) }
 
   module _ (n count : ℕ) (rows : List ℕ) (room : Limits.classes ≤ length before) (in_limit : n < Limits.classes) (h : Listed d before count n rows) where
-    pub listed_more : bit d.declared n ≡ 1 → Listed d before (count + 1) (n + 1) (set rows count (n * 2 + bit d.second n))
+    pub listed_more : declares (unpack_declared d) n ≡ true → Listed d before (count + 1) (n + 1) (set rows count (n * 2 + bit d.second n))
     listed_more e =
         record {
           reached = omega arith;
           few = omega arith;
           as_long = simp length-set h.as_long;
-          listed = stored_last rows count (n * 2 + bit d.second n) (omega arith) ∙ rw (h.listed, rows_next n d, e);
+          listed = stored_last rows count (n * 2 + bit d.second n) (omega arith) ∙ rw (h.listed, rows_next n d, declares-bit d n in_limit ∙ e);
         }
 
-    pub listed_same : (bit d.declared n ≡ 1 → ⊥) → Listed d before count (n + 1) rows
+    pub listed_same : declares (unpack_declared d) n ≡ false → Listed d before count (n + 1) rows
     listed_same e =
         record {
           reached = omega arith;
           few = omega arith;
           as_long = h.as_long;
-          listed = h.listed ∙ sym (rows_next n d ∙ rw (ne_eqb (bit d.declared n) 1 e) (append-nil (rows_below n d)));
+          listed = h.listed ∙ sym (rows_next n d ∙ rw (declares-bit d n in_limit ∙ e) (append-nil (rows_below n d)));
         }

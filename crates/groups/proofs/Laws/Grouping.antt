@@ -1,11 +1,12 @@
 -- Groups of images, as code finds them: the front of an array is filled with what passes, by what is left of the members.
 -- An image leads its group if no image before it has its targets, and these are what its run has.
 use Prim.Native.Nat.{ℕ, suc, ◌+◌, ◌*◌, ◌/◌, ◌%◌, ◌^◌, ◌<◌, ◌≤◌}
-use Rattle.std.proofs.Common.{arith, add-one, ◌∙◌, sym, subst, Fits, length-set, drop_of_length-le, take-append-drop}
+use Rattle.std.proofs.Common.{arith, add-one, ◌∙◌, sym, subst, Fits, length-set, drop_of_length-le, take-append-drop, get_or-take, length-take-le, ⊎_elim}
 use Rattle.std.proofs.Math.Path.{◌≡◌, refl, ap}
 use Rattle.std.proofs.Math.Bool.{Bool, true, false, cond}
 use mathlib.Core.List.Memᴰ
 use mathlib.Core.List.{List, [], ◌∷◌, ◌++◌, map, map-append, append_assoc, append-nil}
+use Rattle.std.proofs.lemmas.Bool.{cases_lt}
 use Rattle.std.specs.Int.{w64}
 use Rattle.std.specs.Prelude.{length, take, set, eqb}
 use Rattle.std.proofs.Math.ListN.{drop}
@@ -17,8 +18,9 @@ use Rattle.lists.proofs.Laws.Lists.{in-keep, in_map, keep_append, keep-none, any
 use Rattle.lists.proofs.Laws.Order.{same-list, rising-append, before-number}
 use Rattle.lists.proofs.Laws.OneMore.{stored_last}
 use Rattle.keys.specs.Keys.{keys_rise, Front}
+use Rattle.keys.specs.Laws.Keys.{search-hit, search-on, search-past}
 use Rattle.edge_runs.specs.Runs.{run_of, lowest, targets_at, has_targets}
-use Rattle.groups.specs.Groups.{numbers_of, arms_alike, arms_unless_before, arms_led_by}
+use Rattle.groups.specs.Groups.{numbers_of, arms_led_by}
 use Rattle.edge_runs.specs.Laws.Running.{number_at_lem}
 
 -- # The front of an array, filled with what f makes of the members that pass
@@ -91,44 +93,10 @@ module _ (nodes : List ℕ) (class : ℕ) (before : List ℕ) where
     pub numbering-all : length nodes ≤ i → Front numbers count (numbers_of class nodes)
     numbering-all past = filling-all _ _ nodes _ before count i numbers h past
 
--- # Arms to the images that have just the targets
-module _ (edges : List ℕ) (a : ℕ) (keys : List ℕ) (b : ℕ) where
-  abbrev pub Arming : (images whole before : List ℕ) (count i : ℕ) (arms : List ℕ) → Type 0
-  Arming images whole before count i arms = Filling (has_targets edges a keys) (λ n. b * 2 ^ 16 + n) images whole before count i arms
-
-  module _ (images before : List ℕ) where
-    pub arming-none : (i : ℕ) → Arming images (arms_alike edges a keys b (drop i images)) before 0 i before
-    unfolding arms_alike
-    arming-none i = filling-none _ _ images before i
-
-    module _ (whole : List ℕ) (count i : ℕ) (arms : List ℕ) (h : Arming images whole before count i arms) (o : Bool)
-        (e : o ≡ same (targets_at edges (images ! i * 2 ^ 6 + a)) (map lowest keys)) (l : i < length images) where
-      pub arming-more : length images ≤ length before → o ≡ true
-          → Arming images whole before (count + 1) (i + 1) (set arms count (b * 2 ^ 16 + images ! i))
-      arming-more room t = filling-more _ _ images whole before count i arms h room l (sym e ∙ t)
-
-      pub arming-same : o ≡ false → Arming images whole before count (i + 1) arms
-      arming-same t = filling-same _ _ images whole before count i arms h l (sym e ∙ t)
-
-    pub arming-all : (whole : List ℕ) (count i : ℕ) (arms : List ℕ) → Arming images whole before count i arms → length images ≤ i
-        → Front arms count whole
-    arming-all whole count i arms h past = filling-all _ _ images whole before count i arms h past
-
 pub arm-fits : (b : ℕ) (images : List ℕ) (i : ℕ) → b < 2 ^ 6 → Below (2 ^ 16) images → i < length images → Fits w64 (b * 2 ^ 16 + images ! i)
 arm-fits b images i h below l = let n = number_at_lem images i below l in omega arith
 
 -- # The group that an image leads
-module _ (edges : List ℕ) (a : ℕ) (keys : List ℕ) (b : ℕ) (images : List ℕ) (i : ℕ) (o : Bool)
-    (e : o ≡ any (has_targets edges a keys) (take i images)) where
-  pub unless-had : (arms : List ℕ) → o ≡ true → Front arms 0 (arms_unless_before edges a keys b images i)
-  unfolding arms_unless_before
-  unless-had arms t = rw (sym e ∙ t) (record { few = omega arith; front = refl })
-
-  pub unless-lacked : (arms : List ℕ) (r : ℕ) → o ≡ false → Front arms r (arms_alike edges a keys b (drop i images))
-      → Front arms r (arms_unless_before edges a keys b images i)
-  unfolding arms_unless_before
-  unless-lacked arms r t h = rw (sym e ∙ t) h
-
 split_at : (ks : List ℕ) (i : ℕ) → i < length ks → ks ≡ take i ks ++ (ks ! i ∷ drop (suc i) ks)
 split_at ks i l = sym (take-append-drop i ks) ∙ ap (λ (m : List ℕ). take i ks ++ m) (drop-cons ks i 0 l)
 
@@ -140,6 +108,12 @@ before-place ks i k h l j =
     ap (λ (m : List ℕ). rising (map (λ k. k ∷ []) m)) (sym (split_at ks i l)) ∙ h in
     let r = (rising-append (map (λ k. k ∷ []) (take i ks)) ((ks ! i ∷ []) ∷ map (λ k. k ∷ []) (drop (suc i) ks))).0 (rw map-append at rise) in
     ltb-true k (ks ! i) (rw before-number at (r.2 (k ∷ []) (ks ! i ∷ []) ((in_map (λ k. k ∷ []) (take i ks)).1 (k, j, refl)) (Memᴰ.head refl)))
+
+-- arms to the images before the one at j that have the targets of the keys, of which those before the one at i are known to have others
+pub record Leading (edges : List ℕ) (a b : ℕ) (images : List ℕ) (i : ℕ) (keys before : List ℕ) (count j : ℕ) (arms : List ℕ) : Type 0 where
+  pub filling : Filling (has_targets edges a keys) (λ n. b * 2 ^ 16 + n) images
+      (map (λ n. b * 2 ^ 16 + n) (keep (has_targets edges a keys) images)) before count j arms
+  pub earlier : any (has_targets edges a keys) (take i images) ≡ any (has_targets edges a keys) (drop j (take i images))
 
 module _ (edges : List ℕ) (a b : ℕ) (images : List ℕ) (i : ℕ) (rise : keys_rise images ≡ true) (l : i < length images) where
   abbrev first : ℕ
@@ -178,15 +152,59 @@ module _ (edges : List ℕ) (a b : ℕ) (images : List ℕ) (i : ℕ) (rise : ke
           let z : ◌≡◌ {A = ℕ} 0 1 = cc in absurd (omega arith)
 
   -- keys that have the targets of the image at i
-  pub led-by : (keys : List ℕ) → map lowest keys ≡ targets_at edges (images ! i * 2 ^ 6 + a)
-      → arms_unless_before edges a keys b images i ≡ arms_led_by edges a b images (images ! i)
-  unfolding arms_unless_before arms_alike
-  led-by keys e =
-      ap (λ (ts : List ℕ).
-      let p : ℕ → Bool = λ j. same (targets_at edges (run_of a j)) ts in
-      cond (any p (take i images)) [] (map arm_to (keep p (drop i images)))) e
-      ∙ led-first
+  module _ (keys : List ℕ) (targets : map lowest keys ≡ targets_at edges (images ! i * 2 ^ 6 + a)) where
+    abbrev has : ℕ → Bool
+    has = has_targets edges a keys
 
-  pub led-front : (keys arms : List ℕ) (r : ℕ) → map lowest keys ≡ targets_at edges (images ! i * 2 ^ 6 + a)
-      → Front arms r (arms_unless_before edges a keys b images i) → Front arms r (arms_led_by edges a b images (images ! i))
-  led-front keys arms r e h = record { few = h.few; front = h.front ∙ led-by keys e }
+    led-by : cond (any has (take i images)) [] (map arm_to (keep has (drop i images))) ≡ arms_led_by edges a b images (images ! i)
+    led-by =
+        ap (λ (ts : List ℕ).
+        let p : ℕ → Bool = λ j. same (targets_at edges (run_of a j)) ts in
+        cond (any p (take i images)) [] (map arm_to (keep p (drop i images)))) targets
+        ∙ led-first
+
+    pub leading-none : (before : List ℕ) → Leading edges a b images i keys before 0 0 before
+    leading-none before = record { filling = filling-none has arm_to images before 0; earlier = refl }
+
+    front-at : (j : ℕ) → j < i → take i images ! j ≡ images ! j
+    front-at j m = get_or-take i images j 0 m
+
+    front-long : length (take i images) ≡ i
+    front-long = length-take-le i images (omega arith)
+
+    -- an image before the one at i has the targets
+    pub led-before : (j : ℕ) → j < i → has_targets edges a keys (images ! j) ≡ true → [] ≡ arms_led_by edges a b images (images ! i)
+    led-before j m t =
+        let one : true ≡ any has (take i images) = search-hit has (take i images) j (omega (arith, front-long)) (rw (front-at j m) t) in
+        rw (← one) at led-by
+
+    module _ (before : List ℕ) (count j : ℕ) (arms : List ℕ) (h : Leading edges a b images i keys before count j arms) where
+      past : i ≤ j → drop j (take i images) ≡ []
+      past m = drop_of_length-le (take i images) (omega (arith, front-long))
+
+      further : i ≤ j → any has (take i images) ≡ any has (drop (j + 1) (take i images))
+      further m =
+          let long : length (take i images) ≤ j + 1 = omega (arith, front-long) in
+          h.earlier ∙ ap (any has) (past m ∙ sym (drop_of_length-le (take i images) long))
+
+      pub leading-more : length images ≤ length before → j < length images → has_targets edges a keys (images ! j) ≡ true → i ≤ j
+          → Leading edges a b images i keys before (count + 1) (j + 1) (set arms count (b * 2 ^ 16 + images ! j))
+      leading-more room k t m = record { filling = filling-more has arm_to images _ before count j arms h.filling room k t; earlier = further m }
+
+      pub leading-same : j < length images → has_targets edges a keys (images ! j) ≡ false → Leading edges a b images i keys before count (j + 1) arms
+      leading-same k t =
+          record {
+            filling = filling-same has arm_to images _ before count j arms h.filling k t;
+            earlier = ⊎_elim
+                (λ (m : j < i). search-on has (take i images) j (omega (arith, front-long)) (rw (front-at j m) t) h.earlier)
+                further
+                (cases_lt j i);
+          }
+
+      pub led-all : length images ≤ j → take count arms ≡ arms_led_by edges a b images (images ! i)
+      led-all p =
+          let none : false ≡ any has (take i images) = search-past has (take i images) j (omega (arith, front-long)) h.earlier in
+          let passed : keep has (take i images) ≡ [] = keep-none has (take i images) ((no_member has (take i images)).0 (sym none)) in
+          let all : keep has images ≡ keep has (drop i images) =
+          ap (keep has) (sym (take-append-drop i images)) ∙ keep_append has (take i images) (drop i images) ∙ ap (λ (l : List ℕ). l ++ keep has (drop i images)) passed in
+          (filling-all has arm_to images _ before count j arms h.filling p).front ∙ ap (map arm_to) all ∙ rw (← none) at led-by

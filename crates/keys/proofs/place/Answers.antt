@@ -1,15 +1,14 @@
--- the goals that are left of `place`
-use native.Mathlib.Omega.{arith}
-use Rattle.keys.specs.Laws.Keys.{place-within, place-above, place-below}
+-- `keys::place` meets its contract: the keys below the key stand first. Assumes nothing.
+use Rattle.std.specs.Prelude.{ltb}
+use Rattle.std.proofs.Common.{rules}
+use Rattle.std.proofs.lemmas.List.Sorted.{IsPartitionPoint-from_clause}
+use Rattle.keys.specs.Laws.Keys.{below-first, place-partition}
 use Rattle.keys.proofs.place.Goals as goal
 
-pub loop-low-init : goal.loop-low-init
-loop-low-init c = (omega arith, place-within _ _, omega arith)
-
-pub loop-low-preserved-then-keys-middle : goal.loop-low-preserved-then-keys-middle
-loop-low-preserved-then-keys-middle c =
-    (place-above _ _ c.requires _ (omega arith) (omega arith), omega arith, omega arith)
-
-pub loop-low-preserved : goal.loop-low-preserved
-loop-low-preserved c =
-    (omega arith, place-below _ _ c.requires _ (omega arith) (omega arith), omega arith)
+pub returns : goal.returns
+returns c =
+    let key = c.args.key in
+    let found = c.partition_point.ensures in
+    let parted = below-first _ key c.requires in
+    place-partition _ key c.requires _ found.bound
+    (IsPartitionPoint-from_clause (λ k. ltb k key) _ _ found.partitioned parted (λ a r f' k. search rules))

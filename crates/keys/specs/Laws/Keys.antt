@@ -1,16 +1,19 @@
 -- Rising keys. Where a key stands among rising keys, those before it are below it and the others are not: what is found there, joined there
 -- and taken away there follows by induction.
 use Rattle.std.specs.Prelude.{ℕ, zero, suc, ◌+◌, ◌-◌, ◌<◌, ◌≤◌, ◌≡◌, ◌↔◌, ◌⊎◌, Bool, true, false, cond, not, length, take, drop, set, eqb, ltb}
-use Rattle.std.proofs.Common.{arith, le_refl, add-one, ap, ap₂, ◌∙◌, inl, inr, ⊎_elim, drop_of_length-le, length-take-le, take-suc, take-take, take_at, drop-cons, drop_at, get_or-take, lt-length-set, drop-set-lt, get_or-set_same, get_or-set_other}
+use Rattle.std.proofs.Common.{drop-cons, drop_of_length-le, arith, add-one, ap, ap₂, ◌∙◌, inl, inr, ⊎_elim, length-take-le, take-take, drop_at}
 use Rattle.std.proofs.Math.Path.{refl, sym}
-use Rattle.std.proofs.lemmas.Bool.{false≢true}
+use Rattle.std.proofs.lemmas.Bool.{false≢true, true_from_ne_false}
+use Rattle.std.specs.List.{copy_within}
+use Rattle.std.specs.List.Sorted.{IsPartitionedBy, IsPartitionPoint}
 use mathlib.Core.List.Memᴰ
-use mathlib.Core.List.{List, [], ◌∷◌, ◌++◌, map, append-nil}
-use Rattle.std.proofs.Math.Seq.{append_snoc, take-set-lt}
-use Rattle.std.proofs.lemmas.List.{set_split, take-set-le}
+use mathlib.Core.List.{List, [], ◌∷◌, ◌++◌, map}
+use Rattle.std.proofs.Math.Seq.{take-set-lt}
+use Rattle.std.proofs.lemmas.List.Edits.{take-paste}
+use Rattle.std.proofs.lemmas.List.{drop-take, take-append-le, length-drop, length-append, get_or_default, set_split}
 use borrow.Author.Tests.{ltb-true, lt-ltb, le-ltb, eq-eqb, ne_eqb, ltb-false, eqb-true, eqb-false}
-use Rattle.lists.specs.Lists.{◌∈◌, any, keep, member, ◌!◌}
-use Rattle.lists.proofs.Laws.Lists.{in-cons, same_truth, in-numbers, keep-none, keep_all, keep-length, any-member, in_map, fails}
+use Rattle.lists.specs.Lists.{any, ◌∈◌, keep, member, ◌!◌}
+use Rattle.lists.proofs.Laws.Lists.{any-member, in-cons, same_truth, in-numbers, keep-none, keep_all, keep-length, in_map, fails}
 use Rattle.lists.proofs.Laws.Maps.{map_back}
 use Rattle.lists.proofs.Laws.Places.{at_place}
 use Rattle.lists.proofs.Laws.Order.{before-number, rising-map, rising-map-keep, rising-determined}
@@ -152,6 +155,9 @@ pub place-within : (key : ℕ) (ks : List ℕ) → place_of key ks ≤ length ks
 unfolding place_of
 place-within key ks = keep-length (λ k. ltb k key) ks
 
+pub place_front : (ks : List ℕ) (count key at : ℕ) → at ≡ place_of key (take count ks) → count ≤ length ks → at ≤ count
+place_front ks count key at e l = omega (arith, e, place-within key (take count ks), length-take-le count ks l)
+
 module _ (ks : List ℕ) (key : ℕ) (rise : keys_rise ks ≡ true) where
   pub place-above : (i : ℕ) → i < length ks → ks ! i < key → i + 1 ≤ place_of key ks
   place-above i l h = omega (arith, lower-before (stands key ks rise) i l h)
@@ -166,6 +172,23 @@ module _ (ks : List ℕ) (key : ℕ) (rise : keys_rise ks ≡ true) where
   pub place_here : (i : ℕ) → i < length ks → key ≤ ks ! i → ks ! (i - 1) < key → i ≡ place_of key ks
   place_here i l k n = omega (arith, place-below i l k, place-above (i - 1) (omega arith) n)
 
+  -- the keys below a key stand before the others, and what parts them is its place
+  pub below-first : IsPartitionedBy (λ k. ltb k key) ks
+  below-first i j d h l e =
+      let low : j + 1 ≤ place_of key ks = place-above j l (ltb-true (ks ! j) key (ap (λ k. ltb k key) (get_or_default ks j 0 d l) ∙ e)) in
+      ap (λ k. ltb k key) (get_or_default ks i d 0 (omega arith))
+      ∙ true_from_ne_false (ltb (ks ! i) key) (λ f. let m : place_of key ks ≤ i = place-below i (omega arith) (ltb-false (ks ! i) key f) in omega arith)
+
+  pub place-partition : (at : ℕ) → at ≤ length ks
+      → IsPartitionPoint (λ k. ltb k key ≡ true) (λ k. ltb k key ≡ false) ks at → at ≡ place_of key ks
+  place-partition at fits p =
+      let within : place_of key ks ≤ length ks = place-within key ks in
+      let not-above : place_of key ks < at → ⊥ =
+      λ l. let m : place_of key ks + 1 ≤ place_of key ks = place-above (place_of key ks) (omega arith) (ltb-true (ks ! place_of key ks) key (p.0 (place_of key ks) 0 (omega arith) l)) in omega arith in
+      let not-below : at < place_of key ks → ⊥ =
+      λ l. let m : place_of key ks ≤ at = place-below at (omega arith) (ltb-false (ks ! at) key (p.1 at 0 (omega arith) (omega arith))) in omega arith in
+      omega (arith, not-above, not-below)
+
   module _ (at : ℕ) (place : at ≡ place_of key ks) where
     pub placed : Stands key ks at
     placed = rw place (stands key ks rise)
@@ -179,62 +202,40 @@ module _ (ks : List ℕ) (key : ℕ) (rise : keys_rise ks ≡ true) where
     pub member-past : length ks ≤ at → false ≡ member ks key
     member-past l = sym ((fails (member ks key)).1 (λ h. let r : at < length ks = (there placed ((in-numbers ks key).0 h)).0 in omega arith))
 
--- # Shifting keys by one place
--- all but the key at place i
-unfoldable pub without : ℕ → List ℕ → List ℕ
-without i ks = take i ks ++ drop (suc i) ks
+-- # Keys that move by one place
+module _ (ks : List ℕ) (at count : ℕ) where
+  -- to the place of the key before
+  pub moved-down : at < count → count ≤ length ks
+      → take (count - 1) (copy_within ks (at + 1) count at) ≡ take at (take count ks) ++ drop (suc at) (take count ks)
+  moved-down l m =
+      let n = count - (at + 1) in
+      let e : count - 1 ≡ at + n = omega arith in
+      let f : count ≡ suc at + n = omega arith in
+      let rest = drop (at + 1) ks in
+      ap (λ z. take z (copy_within ks (at + 1) count at)) e
+      ∙ take-paste ks at rest n (omega arith) (omega (arith, length-drop (at + 1) ks))
+      ∙ ap₂ (λ (a b : List ℕ). a ++ b)
+      (sym (take-take at count ks (omega arith)))
+      (ap (λ z. take n (drop z ks)) (add-one at) ∙ sym (ap (λ z. drop (suc at) (take z ks)) f ∙ drop-take (suc at) n ks))
 
-without-set : (i k : ℕ) (ks : List ℕ) → without i (set ks i k) ≡ without i ks
-unfolding without
-without-set i k ks = rw (take-set-le i ks i k (le_refl i), drop-set-lt (suc i) ks i k (le_refl (suc i)))
-
-set-without : (i k : ℕ) (ks : List ℕ) → i < length ks → set ks i k ≡ take i (without i ks) ++ k ∷ drop i (without i ks)
-unfolding without
-set-without i k ks l =
-    let e : length (take i ks) ≡ i = length-take-le i ks (omega arith) in
-    set_split ks i k l
-    ∙ ap₂ (λ (a b : List ℕ). a ++ k ∷ b) (sym (take_at (take i ks) (drop (suc i) ks) i e)) (sym (drop_at (take i ks) (drop (suc i) ks) i e))
-
--- of two neighbours that are the same, either may be left out
-without-neighbour : (i : ℕ) (ks : List ℕ) → suc i < length ks → ks ! i ≡ ks ! suc i → without i ks ≡ without (suc i) ks
-unfolding without
-without-neighbour i ks l e =
-    let m : i < length ks = omega arith in
-    rw (drop-cons ks (suc i) 0 l, ← e, take-suc ks i 0 m) (sym (append_snoc (take i ks) (ks ! i) (drop (suc (suc i)) ks)))
-
-module _ (ks : List ℕ) (i : ℕ) (l : suc i < length ks) where
-  without-upper : without i (set ks (suc i) (ks ! i)) ≡ without (suc i) ks
-  without-upper =
-      without-neighbour i (set ks (suc i) (ks ! i)) (lt-length-set ks (suc i) (ks ! i) l)
-      (get_or-set_other ks (suc i) i (ks ! i) 0 (λ e. omega arith) ∙ sym (get_or-set_same ks (suc i) (ks ! i) 0 l))
-      ∙ without-set (suc i) (ks ! i) ks
-
-  without-lower : without (suc i) (set ks i (ks ! suc i)) ≡ without i ks
-  without-lower =
-      sym (without-neighbour i (set ks i (ks ! suc i)) (lt-length-set ks i (ks ! suc i) l)
-      (get_or-set_same ks i (ks ! suc i) 0 (omega arith) ∙ sym (get_or-set_other ks i (suc i) (ks ! suc i) 0 (λ e. omega arith))))
-      ∙ without-set i (ks ! suc i) ks
-
--- the first n keys, of which one takes its neighbour's place
-module _ (ks : List ℕ) (n : ℕ) (fits : n ≤ length ks) where
-  pub shift-up : (i : ℕ) → 0 < i → i < n → without (i - 1) (take n (set ks i (ks ! (i - 1)))) ≡ without i (take n ks)
-  shift-up zero p l = absurd (omega arith)
-  shift-up (suc i) p l =
-      let e : suc i - 1 ≡ i = omega arith in
-      rw (e, take-set-lt n ks (suc i) (ks ! i) l, ← get_or-take n ks i 0 (omega arith))
-      (without-upper (take n ks) i (rw (length-take-le n ks fits) l))
-
-  pub shift-down : (i : ℕ) → i + 1 < n → without (i + 1) (take n (set ks i (ks ! (i + 1)))) ≡ without i (take n ks)
-  shift-down i l =
-      let m : suc i < n = omega arith in
-      rw (add-one, take-set-lt n ks i (ks ! suc i) (omega arith), ← get_or-take n ks (suc i) 0 m)
-      (without-lower (take n ks) i (rw (length-take-le n ks fits) m))
-
-pub without-last : (ks : List ℕ) (i : ℕ) → i < length ks → without i (take (i + 1) ks) ≡ take i ks
-unfolding without
-without-last ks i l =
-    let fits : length (take (i + 1) ks) ≤ suc i = omega (arith, length-take-le (i + 1) ks (omega arith)) in
-    rw (take-take i (i + 1) ks (omega arith), drop_of_length-le (take (i + 1) ks) fits) (append-nil (take i ks))
+  -- to the place of the key after, which leaves a place for another
+  pub moved-up : at ≤ count → count < length ks → (key : ℕ)
+      → take (count + 1) (set (copy_within ks at count (at + 1)) at key) ≡ take at (take count ks) ++ key ∷ drop at (take count ks)
+  moved-up l m key =
+      let n = count - at in
+      let moved = copy_within ks at count (at + 1) in
+      let low = take (at + 1) ks in
+      let high = take n (drop at ks) in
+      let e : count + 1 ≡ (at + 1) + n = omega arith in
+      let f : count ≡ at + n = omega arith in
+      let as_long : length low ≡ at + 1 = length-take-le (at + 1) ks (omega arith) in
+      take-set-lt (count + 1) moved at key (omega arith)
+      ∙ ap (λ (z : List ℕ). set z at key)
+      (ap (λ z. take z moved) e ∙ take-paste ks (at + 1) (drop at ks) n (omega arith) (omega (arith, length-drop at ks)))
+      ∙ set_split (low ++ high) at key (omega (arith, as_long, length-append low high))
+      ∙ ap₂ (λ (a b : List ℕ). a ++ key ∷ b)
+      (take-append-le at low high (omega arith) ∙ take-take at (at + 1) ks (omega arith) ∙ sym (take-take at count ks l))
+      (drop_at low high (suc at) (as_long ∙ add-one at) ∙ sym (ap (λ z. drop at (take z ks)) f ∙ drop-take at n ks))
 
 module _ (front : List ℕ) (key : ℕ) where
   absent : false ≡ member front key → key ∈ front → ⊥
@@ -251,21 +252,22 @@ module _ (front : List ℕ) (key : ℕ) where
         sym (join-standing s r.0 r.1)
 
     module _ (at : ℕ) (place : at ≡ place_of key front) where
-      pub place-there : true ≡ member front key → at < length front
+      place-there : true ≡ member front key → at < length front
       place-there h = (there (placed front key rise at place) ((in-numbers front key).0 (sym h))).0
 
-      pub cut-there : true ≡ member front key → without at front ≡ keep (λ k. not (eqb k key)) front
-      unfolding without
+      pub cut-there : true ≡ member front key → take at front ++ drop (suc at) front ≡ keep (λ k. not (eqb k key)) front
       cut-there h =
           let s = placed front key rise at place in
           let r = there s ((in-numbers front key).0 (sym h)) in
           sym (keep-there s r.0 r.1)
 
-      pub join_apart : (ks : List ℕ) (n : ℕ) → at < n → n ≤ length ks → false ≡ member front key
-          → without at (take n ks) ≡ front → take n (set ks at key) ≡ join_key key front
-      join_apart ks n l fits h e =
-          rw (take-set-lt n ks at key l, set-without at key (take n ks) (rw (length-take-le n ks fits) l), e)
-          (sym (join-absent (placed front key rise at place) (absent h)))
+      pub join_apart : false ≡ member front key → take at front ++ key ∷ drop at front ≡ join_key key front
+      join_apart h = sym (join-absent (placed front key rise at place) (absent h))
+
+-- a key among the first keys stands before their end
+pub found_front : (ks : List ℕ) (count key at : ℕ) → keys_rise (take count ks) ≡ true → at ≡ place_of key (take count ks)
+    → true ≡ member (take count ks) key → count ≤ length ks → at + 1 ≤ count
+found_front ks count key at r e m l = omega (arith, place-there (take count ks) key r at e m, length-take-le count ks l)
 
 -- # A search from the front, by what is left of the keys from i on
 module _ (p : ℕ → Bool) (ks : List ℕ) (i : ℕ) where

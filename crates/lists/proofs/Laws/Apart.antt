@@ -1,9 +1,8 @@
 -- Members of which no two share a list of numbers: such a list tells which member it is, and finds it.
 -- By induction on the members.
-use Rattle.std.specs.Prelude.{ℕ, ◌≡◌, refl, Bool, true, false, not, ◌&&◌, List, [], ◌∷◌, map}
+use Rattle.std.specs.Prelude.{ℕ, ◌≡◌, refl, Bool, true, false, not, ◌&&◌, List, [], ◌∷◌, map, Option, None, Some}
 use Rattle.std.proofs.Common.{ap, ◌∙◌, sym, inr, ⊎_elim}
 use Rattle.std.proofs.lemmas.Bool.{false≢true}
-use Rattle.std.proofs.Math.Option.{Option, none, some}
 use mathlib.Core.List.Memᴰ
 use Rattle.lists.specs.Lists.{◌∈◌, all, find}
 use Rattle.lists.specs.Order.{same, before, rising}
@@ -11,7 +10,7 @@ use Rattle.lists.proofs.Laws.Lists.{both, not_so, all-members, fails, Truth, in-
 use Rattle.lists.proofs.Laws.Order.{same-list, before-irreflexive, rising-map}
 
 -- what is found is a member that passes
-pub found-member : {A : Type 0} (p : A → Bool) (xs : List A) {x : A} → find p xs ≡ some x → (x ∈ xs) × (p x ≡ true)
+pub found-member : {A : Type 0} (p : A → Bool) (xs : List A) {x : A} → find p xs ≡ Some x → (x ∈ xs) × (p x ≡ true)
 found-member p xs {x} h =
     let r = finds p xs h in
     (rw r.split ((in-append r.front (x ∷ r.back)).1 (inr (Memᴰ.head refl))), r.passes)
@@ -52,12 +51,12 @@ module _ {A : Type 0} (g : A → List ℕ) where
     abbrev here : A → A → Bool
     here x y = same (g y) (g x) && q y
 
-    found_here : (x : A) → x ∈ xs → q x ≡ true → (o : Option A) → find (here x) xs ≡ o → o ≡ some x
-    found_here x i e none f =
+    found_here : (x : A) → x ∈ xs → q x ≡ true → (o : Option A) → find (here x) xs ≡ o → o ≡ Some x
+    found_here x i e None f =
         absurd (false≢true (sym ((finds-none (here x) xs).0 f x i) ∙ (both (same (g x) (g x)) (q x)).1 ((same-list (g x) (g x)).1 refl, e)))
-    found_here x i e (some y) f =
+    found_here x i e (Some y) f =
         let r = found-member (here x) xs f in
-        ap some (apart-determined xs h r.0 i ((same-list (g y) (g x)).0 ((both (same (g y) (g x)) (q y)).0 r.1).0))
+        ap Some (apart-determined xs h r.0 i ((same-list (g y) (g x)).0 ((both (same (g y) (g x)) (q y)).0 r.1).0))
 
-    pub apart-find : {x : A} → x ∈ xs → q x ≡ true → find (λ y. same (g y) (g x) && q y) xs ≡ some x
+    pub apart-find : {x : A} → x ∈ xs → q x ≡ true → find (λ y. same (g y) (g x) && q y) xs ≡ Some x
     apart-find {x} i e = found_here x i e (find (here x) xs) refl

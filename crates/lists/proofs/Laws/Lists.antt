@@ -1,9 +1,8 @@
 -- Tests on lists as statements on members, and the members of lists made from lists.
-use Rattle.std.specs.Prelude.{ℕ, zero, suc, ◌+◌, ◌<◌, ◌≤◌, ◌≡◌, refl, ◌↔◌, ◌⊎◌, Bool, true, false, cond, not, ◌&&◌, ◌||◌, List, [], ◌∷◌, ◌++◌, map, length, take, eqb, ltb, leb}
+use Rattle.std.specs.Prelude.{ℕ, zero, suc, ◌+◌, ◌<◌, ◌≤◌, ◌≡◌, refl, ◌↔◌, ◌⊎◌, Bool, true, false, cond, not, ◌&&◌, ◌||◌, List, [], ◌∷◌, ◌++◌, map, length, take, eqb, ltb, leb, None, Some}
 use Rattle.std.proofs.Common.{ap, ◌∙◌, sym, subst, inl, inr, ⊎_elim, le_refl, eq-or-lt_of_le, append_assoc, arith, ltb-true, leb-true, eqb-true, lt-ltb, le-leb, eq-eqb, ne_eqb}
 use Rattle.std.proofs.lemmas.Bool.{false≢true, eqb-false}
 use Rattle.std.proofs.Math.Bool.{and_assoc, or_assoc}
-use Rattle.std.proofs.Math.Option.{none, some}
 use mathlib.Core.List.Memᴰ
 use Rattle.lists.specs.Lists.{◌∈◌, any, all, keep, find, each, sequences, count_from, member, same_set}
 
@@ -193,11 +192,11 @@ module _ {A : Type 0} (p : A → Bool) where
     pub passes : p x ≡ true
     pub before : (y : A) → y ∈ front → p y ≡ false
 
-  pub finds : (xs : List A) {x : A} → find p xs ≡ some x → Finds xs x
+  pub finds : (xs : List A) {x : A} → find p xs ≡ Some x → Finds xs x
   finds [] h = let z : ◌≡◌ {A = ℕ} 0 1 = cc in absurd (omega arith)
   finds (y ∷ xs) {x} h = go (p y) refl (finds xs) h
     where
-      go : (t : Bool) → p y ≡ t → (find p xs ≡ some x → Finds xs x) → cond t (some y) (find p xs) ≡ some x → Finds (y ∷ xs) x
+      go : (t : Bool) → p y ≡ t → (find p xs ≡ Some x → Finds xs x) → cond t (Some y) (find p xs) ≡ Some x → Finds (y ∷ xs) x
       go true e more g = record { front = []; back = xs; split = cc; passes = cc; before = λ z i. absurd (Memᴰ.not-nil i) }
       go false e more g =
           let r = more g in
@@ -209,35 +208,35 @@ module _ {A : Type 0} (p : A → Bool) where
             before = λ z i. ⊎_elim (λ q. ap p q ∙ e) (r.before z) (in-cons.0 i);
           }
 
-  pub finds-none : (xs : List A) → (find p xs ≡ none) ↔ ((x : A) → x ∈ xs → p x ≡ false)
+  pub finds-none : (xs : List A) → (find p xs ≡ None) ↔ ((x : A) → x ∈ xs → p x ≡ false)
   finds-none [] = ((λ h x i. absurd (Memᴰ.not-nil i)), λ h. refl)
   finds-none (y ∷ xs) = (
     (λ h x i. go (p y) refl h x i (finds-none xs).0),
     λ h. rw (h y (Memᴰ.head refl)) ((finds-none xs).1 (λ x i. h x (Memᴰ.tail i))),
   )
     where
-      go : (t : Bool) → p y ≡ t → cond t (some y) (find p xs) ≡ none → (x : A) → x ∈ (y ∷ xs)
-          → (find p xs ≡ none → (z : A) → z ∈ xs → p z ≡ false) → p x ≡ false
+      go : (t : Bool) → p y ≡ t → cond t (Some y) (find p xs) ≡ None → (x : A) → x ∈ (y ∷ xs)
+          → (find p xs ≡ None → (z : A) → z ∈ xs → p z ≡ false) → p x ≡ false
       go true e g x i more = cc
       go false e g x i more = ⊎_elim (λ q. ap p q ∙ e) (more g x) (in-cons.0 i)
 
 -- what is found in the first of two lists, or in the second
 module _ {A : Type 0} (p : A → Bool) where
-  pub find_first : (xs ys : List A) {x : A} → find p xs ≡ some x → find p (xs ++ ys) ≡ some x
+  pub find_first : (xs ys : List A) {x : A} → find p xs ≡ Some x → find p (xs ++ ys) ≡ Some x
   find_first [] ys e = let z : ◌≡◌ {A = ℕ} 0 1 = cc in absurd (omega arith)
   find_first (y ∷ xs) ys {x} e = go (p y) (find_first xs ys) e
     where
-      go : (t : Bool) → (find p xs ≡ some x → find p (xs ++ ys) ≡ some x) → cond t (some y) (find p xs) ≡ some x
-          → cond t (some y) (find p (xs ++ ys)) ≡ some x
+      go : (t : Bool) → (find p xs ≡ Some x → find p (xs ++ ys) ≡ Some x) → cond t (Some y) (find p xs) ≡ Some x
+          → cond t (Some y) (find p (xs ++ ys)) ≡ Some x
       go true f q = q
       go false f q = f q
 
-  pub find-later : (xs ys : List A) → find p xs ≡ none → find p (xs ++ ys) ≡ find p ys
+  pub find-later : (xs ys : List A) → find p xs ≡ None → find p (xs ++ ys) ≡ find p ys
   find-later [] ys e = refl
   find-later (y ∷ xs) ys e = go (p y) (find-later xs ys) e
     where
-      go : (t : Bool) → (find p xs ≡ none → find p (xs ++ ys) ≡ find p ys) → cond t (some y) (find p xs) ≡ none
-          → cond t (some y) (find p (xs ++ ys)) ≡ find p ys
+      go : (t : Bool) → (find p xs ≡ None → find p (xs ++ ys) ≡ find p ys) → cond t (Some y) (find p xs) ≡ None
+          → cond t (Some y) (find p (xs ++ ys)) ≡ find p ys
       go true f q = let z : ◌≡◌ {A = ℕ} 0 1 = cc in absurd (omega arith)
       go false f q = f q
 

@@ -1,9 +1,7 @@
 -- Lists made from the members of a list: made in two steps, made alike, and made back; tests and folds of them; and that the first of members that
 -- rise do. By induction on the members.
-use Rattle.std.specs.Prelude.{ℕ, ◌≡◌, refl, Bool, true, false, cond, ◌&&◌}
+use Rattle.std.specs.Prelude.{ℕ, ◌≡◌, refl, Bool, true, false, cond, ◌&&◌, option_map, Option, Some}
 use Rattle.std.proofs.Common.{ap, ap₂, ◌∙◌}
-use Rattle.std.proofs.Math.Option
-use Rattle.std.proofs.Math.Option.{Option, some}
 use mathlib.Core.List.Memᴰ
 use mathlib.Core.List.{List, [], ◌∷◌, ◌++◌, map, map-append, map-map, map-id, foldl}
 use Rattle.lists.specs.Lists.{◌∈◌, all, keep, find, each}
@@ -37,11 +35,11 @@ each-if {A} {B} p f (x ∷ xs) = go (p x) (keep p xs) (each-if p f xs)
 
 -- what is found among what f makes of the members
 pub find-map : {A B : Type 0} (f : A → B) (p : A → Bool) (q : B → Bool) (xs : List A) → ((x : A) → x ∈ xs → q (f x) ≡ p x)
-    → find q (map f xs) ≡ Option.map f (find p xs)
+    → find q (map f xs) ≡ option_map f (find p xs)
 find-map f p q [] h = refl
 find-map {A} {B} f p q (x ∷ xs) h = rw (h x (Memᴰ.head refl), find-map f p q xs (λ y i. h y (Memᴰ.tail i))) (go (p x) (find p xs))
   where
-    go : (t : Bool) (o : Option A) → cond t (some (f x)) (Option.map f o) ≡ Option.map f (cond t (some x) o)
+    go : (t : Bool) (o : Option A) → cond t (Some (f x)) (option_map f o) ≡ option_map f (cond t (Some x) o)
     go true o = refl
     go false o = refl
 

@@ -1,12 +1,11 @@
 -- Lists with one member more at the end: what they are, their last member, that they rise, and that a relation holds of no two members.
 -- By induction on the list; what is said of two members, by where they stand.
-use Rattle.std.specs.Prelude.{ℕ, zero, suc, ◌+◌, ◌<◌, ◌≡◌, refl, ◌↔◌, ◌⊎◌, Bool, true, false, length, take, set}
+use Rattle.std.specs.Prelude.{ℕ, zero, suc, ◌+◌, ◌<◌, ◌≡◌, refl, ◌↔◌, ◌⊎◌, Bool, true, false, length, take, set, None, Some, is_some, unwrap_or}
 use Rattle.std.proofs.Common.{arith, add-one, ap, ap₂, ◌∙◌, sym, inl, inr, ⊎_elim, take-suc-set}
 use Rattle.std.proofs.lemmas.Bool.{false≢true}
-use Rattle.std.proofs.Math.Option.{none, some}
 use mathlib.Core.List.Memᴰ
-use mathlib.Core.List.{List, [], ◌∷◌, ◌++◌, map, map-append, get_last?}
-use Rattle.lists.specs.Lists.{◌∈◌, count_from}
+use mathlib.Core.List.{List, [], ◌∷◌, ◌++◌, map, map-append}
+use Rattle.lists.specs.Lists.{◌∈◌, count_from, last_of}
 use Rattle.lists.specs.Order.{before, rising}
 use Rattle.lists.proofs.Laws.Lists.{fails, in-append, in_map}
 use Rattle.lists.proofs.Laws.Order.{before-transitive, rising-append}
@@ -22,17 +21,22 @@ pub stored_last : (keys : List ℕ) (count key : ℕ) → count < length keys �
 stored_last keys count key h = rw add-one (take-suc-set keys count key h)
 
 -- # The last member
-module _ {A : Type 0} where
-  pub no_last : (xs : List A) → get_last? xs ≡ none → xs ≡ []
-  no_last [] h = refl
-  no_last (x ∷ xs) h = let z : ◌≡◌ {A = ℕ} 0 1 = cc in absurd (omega arith)
+abbrev some-member : {A : Type 0} → List A → Bool
+some-member [] = false
+some-member (x ∷ xs) = true
 
-  pub last-split : (xs : List A) {x : A} → get_last? xs ≡ some x → (front : List A) × (xs ≡ front ++ (x ∷ []))
-  last-split [] h = let z : ◌≡◌ {A = ℕ} 0 1 = cc in absurd (omega arith)
-  last-split (y ∷ []) {x} h = let e : y ≡ x = cc in ([], ap (λ a. a ∷ []) e)
+module _ {A : Type 0} where
+  pub no_last : (xs : List A) → last_of xs ≡ None → xs ≡ []
+  no_last [] h = refl
+  no_last (x ∷ []) h = absurd (false≢true (sym (ap is_some h)))
+  no_last (x ∷ y ∷ xs) h = let none : y ∷ xs ≡ [] = no_last (y ∷ xs) h in absurd (false≢true (sym (ap some-member none)))
+
+  pub last-split : (xs : List A) {x : A} → last_of xs ≡ Some x → (front : List A) × (xs ≡ front ++ (x ∷ []))
+  last-split [] h = absurd (false≢true (ap is_some h))
+  last-split (y ∷ []) {x} h = ([], ap (λ o. unwrap_or o x ∷ []) h)
   last-split (y ∷ z ∷ xs) h = let r = last-split (z ∷ xs) h in (y ∷ r.0, ap (λ (l : List A). y ∷ l) r.1)
 
-  pub last-of-append : (xs : List A) (x : A) → get_last? (xs ++ (x ∷ [])) ≡ some x
+  pub last-of-append : (xs : List A) (x : A) → last_of (xs ++ (x ∷ [])) ≡ Some x
   last-of-append [] x = refl
   last-of-append (y ∷ []) x = refl
   last-of-append (y ∷ z ∷ xs) x = last-of-append (z ∷ xs) x

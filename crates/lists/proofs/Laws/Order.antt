@@ -1,8 +1,7 @@
 -- The order of lists of numbers is a strict total order; what rises, and that a rising list is determined by its members.
-use Rattle.std.specs.Prelude.{ℕ, zero, suc, ◌<◌, ◌≡◌, refl, ◌↔◌, ◌⊎◌, Bool, true, false, cond, ◌&&◌, ◌||◌, List, [], ◌∷◌, ◌++◌, map, eqb, ltb}
+use Rattle.std.specs.Prelude.{ℕ, zero, suc, ◌<◌, ◌≡◌, refl, ◌↔◌, ◌⊎◌, Bool, true, false, cond, ◌&&◌, ◌||◌, List, [], ◌∷◌, ◌++◌, map, eqb, ltb, Option, None, Some}
 use Rattle.std.proofs.Common.{arith, ap, ap₂, ◌∙◌, sym, inl, inr, ⊎_elim, map-id, lt-ltb, eq-eqb, ltb-true, ltb-false, eqb-true}
 use Rattle.std.proofs.lemmas.Bool.{false≢true, eqb-false}
-use Rattle.std.proofs.Math.Option.{Option, none, some}
 use mathlib.Core.List.Memᴰ
 use Rattle.std.proofs.lemmas.List.{map-append}
 use Rattle.lists.specs.Lists.{◌∈◌, any, keep, find, each, sequences, count_from}
@@ -223,16 +222,16 @@ in-lists xs x = (
 -- # The smallest of a kind
 module _ {A : Type 0} (f : A → List ℕ) where
   pub smallest-same : (P Q : A → Type 0) → ((x : A) → P x ↔ Q x) → (o : Option A) → Smallest f P o → Smallest f Q o
-  smallest-same P Q e none h = λ y q. h y ((e y).1 q)
-  smallest-same P Q e (some x) h = ((e x).0 h.0, λ y q. h.1 y ((e y).1 q))
+  smallest-same P Q e None h = λ y q. h y ((e y).1 q)
+  smallest-same P Q e (Some x) h = ((e x).0 h.0, λ y q. h.1 y ((e y).1 q))
 
   smallest-one : (P : A → Type 0) (o q : Option A) → Smallest f P o → Smallest f P q → o ≡ q
-  smallest-one P none none h k = refl
-  smallest-one P none (some y) h k = absurd (h y k.0)
-  smallest-one P (some x) none h k = absurd (k x h.0)
-  smallest-one P (some x) (some y) h k =
-      ⊎_elim (λ e. ap some (sym e))
-      (λ l. ⊎_elim (ap some) (λ m. absurd (before-irreflexive (f x) (before-transitive (f x) (f y) (f x) l m))) (k.1 x h.0))
+  smallest-one P None None h k = refl
+  smallest-one P None (Some y) h k = absurd (h y k.0)
+  smallest-one P (Some x) None h k = absurd (k x h.0)
+  smallest-one P (Some x) (Some y) h k =
+      ⊎_elim (λ e. ap Some (sym e))
+      (λ l. ⊎_elim (ap Some) (λ m. absurd (before-irreflexive (f x) (before-transitive (f x) (f y) (f x) l m))) (k.1 x h.0))
       (h.1 y k.0)
 
   -- in a rising list, the first member that passes is the smallest
@@ -240,8 +239,8 @@ module _ {A : Type 0} (f : A → List ℕ) where
   find-smallest p xs h = go (find p xs) refl
     where
       go : (o : Option A) → find p xs ≡ o → Smallest f (λ x. (x ∈ xs) × (p x ≡ true)) o
-      go none e = λ y q. false≢true (sym ((finds-none p xs).0 e y q.0) ∙ q.1)
-      go (some x) e =
+      go None e = λ y q. false≢true (sym ((finds-none p xs).0 e y q.0) ∙ q.1)
+      go (Some x) e =
           let r = finds p xs e in
           let rise = (rising-append (map f r.front) (map f (x ∷ r.back))).0 (rw (r.split, map-append) at h) in (
             (rw r.split ((in-append r.front (x ∷ r.back)).1 (inr (Memᴰ.head refl))), r.passes),

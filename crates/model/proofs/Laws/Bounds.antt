@@ -1,9 +1,8 @@
 -- How many lines and bytes an accepted text can have, and that a longer text is decided by its first part.
 -- Each key has room for so many lines, each of so many bytes; a line past that room is refused wherever the text is cut behind it.
-use Rattle.std.specs.Prelude.{ℕ, zero, suc, ◌+◌, ◌*◌, ◌-◌, ◌<◌, ◌≤◌, ◌≡◌, refl, Bool, true, false, length, take, eqb, leb}
+use Rattle.std.specs.Prelude.{ℕ, zero, suc, ◌+◌, ◌*◌, ◌-◌, ◌<◌, ◌≤◌, ◌≡◌, refl, Bool, true, false, length, take, eqb, leb, Option, None, Some}
 use Rattle.std.proofs.Common.{mul-le-mul_right, arith, ap, ◌∙◌, sym, subst, length-append, eq-eqb, leb-true, leb-false}
 use Rattle.std.proofs.lemmas.Bool.{false≢true}
-use Rattle.std.proofs.Math.Option.{Option, none, some}
 use mathlib.Core.List.Memᴰ
 use mathlib.Core.List.{List, [], ◌∷◌, ◌++◌, map}
 use Rattle.std.proofs.Math.Seq.{take-nil, take-append-add}
@@ -151,23 +150,23 @@ module _ {K : Type 0} (f : Format K) (regular : Regular f) {k : K} (some_key : k
   cut-refused above zero w h l m = absurd (omega arith)
   cut-refused above (suc n) [] h l m = absurd (omega arith)
   cut-refused above (suc n) (b ∷ bs) h l m =
-      ap (reading f above) (lines-last f b (take n bs) (take-without 10 (suc n) (b ∷ bs) h)) ∙ bad-line-refused f above none [] out-of-form
+      ap (reading f above) (lines-last f b (take n bs) (take-without 10 (suc n) (b ∷ bs) h)) ∙ bad-line-refused f above None [] out-of-form
 
   decided-last : (w : List ℕ) → member w 10 ≡ false → Decided w
   decided-last [] h above n p r = rw take-nil refl
   decided-last (b ∷ bs) h above n p r =
       let some_bytes = roomy-spare above n p r in
       ap (reading f above) (lines-last f b bs h)
-      ∙ bad-line-refused f above none [] out-of-form
+      ∙ bad-line-refused f above None [] out-of-form
       ∙ sym (cut-refused above n (b ∷ bs) h (omega (arith, some-spare)) (omega arith))
 
   -- a line cut off is out of form: one in form would fit
   decided-cut : (w rest : List ℕ) → member w 10 ≡ false → (above : List (Line K)) (n : ℕ) → spare ≤ n → n ≤ length w → (o : Option (Line K))
       → line_of f (pieces 61 w) ≡ o → reading f above (o ∷ lines_of f (pieces 10 rest)) ≡ from above (take n w)
-  decided-cut w rest h above n r c none e =
-      bad-line-refused f above none (lines_of f (pieces 10 rest)) out-of-form
+  decided-cut w rest h above n r c None e =
+      bad-line-refused f above None (lines_of f (pieces 10 rest)) out-of-form
       ∙ sym (cut-refused above n w h (omega (arith, some-spare)) (omega (arith, some-spare)))
-  decided-cut w rest h above n r c (some l) e =
+  decided-cut w rest h above n r c (Some l) e =
       let s = line-spelled f w l e in
       let room = total-member (λ j. widest (f.form_of j)) f.keys s.1.listed in
       absurd (omega (arith, ap length s.0, length-append (body f l) (10 ∷ []), line-longest f l s.1))
@@ -175,24 +174,24 @@ module _ {K : Type 0} (f : Format K) (regular : Regular f) {k : K} (some_key : k
   -- a whole line is read alike in both
   decided-whole : (w rest : List ℕ) → Decided rest → (above : List (Line K)) (n : ℕ) → Passing f above → Roomy above (length w + suc n) → (o : Option (Line K))
       → line_of f (pieces 61 w) ≡ o → reading f above (o ∷ lines_of f (pieces 10 rest)) ≡ reading f above (o ∷ lines_of f (pieces 10 (take n rest)))
-  decided-whole w rest ih above n p r none e =
-      bad-line-refused f above none (lines_of f (pieces 10 rest)) out-of-form
-      ∙ sym (bad-line-refused f above none (lines_of f (pieces 10 (take n rest))) out-of-form)
-  decided-whole w rest ih above n p r (some l) e = go (passes f above l) refl
+  decided-whole w rest ih above n p r None e =
+      bad-line-refused f above None (lines_of f (pieces 10 rest)) out-of-form
+      ∙ sym (bad-line-refused f above None (lines_of f (pieces 10 (take n rest))) out-of-form)
+  decided-whole w rest ih above n p r (Some l) e = go (passes f above l) refl
     where
       s : Spelled f w l
       s = line-spelled f w l e
 
       go : (t : Bool) → passes f above l ≡ t
-          → reading f above (some l ∷ lines_of f (pieces 10 rest)) ≡ reading f above (some l ∷ lines_of f (pieces 10 (take n rest)))
+          → reading f above (Some l ∷ lines_of f (pieces 10 rest)) ≡ reading f above (Some l ∷ lines_of f (pieces 10 (take n rest)))
       go true g =
           reading-passing f above l (lines_of f (pieces 10 rest)) g
           ∙ ih (above ++ (l ∷ [])) n (passing-snoc f above l p s.1 g) (roomy-snoc above l n (subst (λ v. Roomy above (length v + suc n)) s.0 r))
           ∙ sym (reading-passing f above l (lines_of f (pieces 10 (take n rest))) g)
       go false g =
           let bad = (bad-line f above l g).1 in
-          bad-line-refused f above (some l) (lines_of f (pieces 10 rest)) bad
-          ∙ sym (bad-line-refused f above (some l) (lines_of f (pieces 10 (take n rest))) bad)
+          bad-line-refused f above (Some l) (lines_of f (pieces 10 rest)) bad
+          ∙ sym (bad-line-refused f above (Some l) (lines_of f (pieces 10 (take n rest))) bad)
 
   decided-line : (w rest : List ℕ) → member w 10 ≡ false → Decided rest → Decided (w ++ (10 ∷ rest))
   decided-line w rest h ih above n p r = go (leb n (length w)) refl

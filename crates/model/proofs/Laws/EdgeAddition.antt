@@ -1,11 +1,10 @@
 -- Edge addition: the smallest set of edges that holds the old ones and the images, sound if it is accepted.
 -- Joining an edge keeps the order and puts in that edge alone; the tests of refusals 11 and 12 give the limit and the functional names.
 use Prim.Native.Nat.{ℕ, ◌≤◌}
-use Rattle.std.specs.Prelude.{◌≡◌, ◌↔◌, ◌⊎◌, true, false, cond, List, [], ◌∷◌, map, length, ltb}
+use Rattle.std.specs.Prelude.{◌≡◌, ◌↔◌, ◌⊎◌, true, false, cond, List, [], ◌∷◌, map, length, ltb, Option, None, Some}
 use Rattle.std.proofs.Math.Path.{refl}
 use Rattle.std.proofs.Common.{ap, ◌∙◌, sym, inl, inr, ⊎_elim}
 use Rattle.std.proofs.Math.Bool.{Bool}
-use Rattle.std.proofs.Math.Option.{Option, none, some}
 use mathlib.Core.List.Memᴰ
 use borrow.Author.Tests.{ltb-false}
 use Rattle.lists.specs.Lists.{◌∈◌, find}
@@ -119,9 +118,9 @@ module _ (s : Scheme) (ts : List Triple) (ms : List (List ℕ)) (d : Instance) w
       tears n = torn s union n.number
 
       go : (o : Option (Node ℕ)) → find tears d.nodes ≡ o → unless_torn o (record { nodes = d.nodes; edges = union }) ≡ accepted e
-          → (find tears d.nodes ≡ none) × (e ≡ record { nodes = d.nodes; edges = union })
-      go none p h = (p, cc)
-      go (some n) p h = absurd (refused-not-accepted h)
+          → (find tears d.nodes ≡ None) × (e ≡ record { nodes = d.nodes; edges = union })
+      go None p h = (p, cc)
+      go (Some n) p h = absurd (refused-not-accepted h)
 
   -- "The images of all matchings are joined to the edges": an accepted edge addition leaves the nodes, has the old edges and the images, and
   -- no edge that any list which holds both does not have

@@ -1,9 +1,8 @@
 -- What the tests on schemes, instances and patterns say, as statements on classes, names, nodes and edges.
 -- Each record is one test taken apart, with an equivalence between the two.
-use Rattle.std.specs.Prelude.{ℕ, ◌<◌, ◌≤◌, ◌≡◌, refl, ◌↔◌, Bool, true, false, List, [], ◌∷◌, map, length}
+use Rattle.std.specs.Prelude.{ℕ, ◌<◌, ◌≤◌, ◌≡◌, refl, ◌↔◌, Bool, true, false, List, [], ◌∷◌, map, length, Option}
 use Rattle.std.proofs.Common.{ap, sym}
 use Rattle.std.proofs.Math.Logic.Iff
-use Rattle.std.proofs.Math.Option.{Option}
 use mathlib.Core.List.Memᴰ
 use Rattle.lists.specs.Lists.{◌∈◌, any, count_from}
 use Rattle.lists.specs.Order.{same, rising}

@@ -1,12 +1,11 @@
 -- Lines key by key: lines that pass are those of the first key, then those of the second, and so on, and lines so put together pass.
 -- A line's turn is at most that of every line below it, so that the lines of an earlier turn all stand above it.
-use Rattle.std.specs.Prelude.{ℕ, ◌<◌, ◌≤◌, ◌≡◌, refl, ◌↔◌, Bool, true, false, length, take, eqb}
+use Rattle.std.specs.Prelude.{ℕ, ◌<◌, ◌≤◌, ◌≡◌, refl, ◌↔◌, Bool, true, false, length, take, eqb, Option, None, Some}
 use Rattle.std.proofs.Common.{arith, ap, ap₂, ◌∙◌, sym, subst, inl, inr, ⊎_elim, length-append, eq-eqb, ne_eqb}
 use Rattle.std.proofs.lemmas.Bool.{false≢true, lt-leb}
-use Rattle.std.proofs.Math.Option.{Option, none, some}
 use mathlib.Core.List.Memᴰ
-use mathlib.Core.List.{List, [], ◌∷◌, ◌++◌, map, get_last?, append_assoc, append-nil}
-use Rattle.lists.specs.Lists.{◌∈◌, each}
+use mathlib.Core.List.{List, [], ◌∷◌, ◌++◌, map, append_assoc, append-nil}
+use Rattle.lists.specs.Lists.{◌∈◌, each, last_of}
 use Rattle.lists.specs.Order.{rising}
 use Rattle.lists.proofs.Laws.Lists.{both, in-cons, in-append, in_map, in-each, keep-none}
 use Rattle.lists.proofs.Laws.Order.{lexicographic, rising-map}
@@ -32,7 +31,7 @@ module _ {K : Type 0} (f : Format K) where
   -- # Order
   in-order-append : (xs ys : List (Line K))
       → (in_order f (xs ++ ys) ≡ true)
-      ↔ ((in_order f xs ≡ true) × (in_order f ys ≡ true) × ((x y : Line K) → x ∈ xs → y ∈ ys → follows f.form_of (some x) y ≡ true))
+      ↔ ((in_order f xs ≡ true) × (in_order f ys ≡ true) × ((x y : Line K) → x ∈ xs → y ∈ ys → follows f.form_of (Some x) y ≡ true))
   in-order-append [] ys = ((λ h. (refl, h, λ x y i j. absurd (Memᴰ.not-nil i))), λ h. h.1)
   in-order-append (a ∷ xs) ys = (
     (λ h.
@@ -42,7 +41,7 @@ module _ {K : Type 0} (f : Format K) where
           r.1,
           λ x y i j.
               let first = c.0 y ((in-append xs ys).1 (inr j)) in
-              ⊎_elim (λ e. subst (λ z. follows f.form_of (some z) y ≡ true) (sym e) first) (λ k. r.2 x y k j) (in-cons.0 i),
+              ⊎_elim (λ e. subst (λ z. follows f.form_of (Some z) y ≡ true) (sym e) first) (λ k. r.2 x y k j) (in-cons.0 i),
         )),
     λ h.
         let c = (in-order-cons f a xs).0 h.0 in
@@ -52,13 +51,13 @@ module _ {K : Type 0} (f : Format K) where
         ),
   )
 
-  turn-rises : (a l : Line K) → follows f.form_of (some a) l ≡ true → turn_of f a.key ≤ turn_of f l.key
+  turn-rises : (a l : Line K) → follows f.form_of (Some a) l ≡ true → turn_of f a.key ≤ turn_of f l.key
   turn-rises a l h =
       ⊎_elim (λ (m : turn_of f a.key < turn_of f l.key). omega arith) (λ r. let e = r.0 in omega arith)
       ((lexicographic (turn_of f a.key) (turn_of f l.key) (rises (f.form_of l.key).by a.numbers l.numbers)).0 h)
 
-  follows-last : (above : List (Line K)) (l : Line K) → ((a : Line K) → a ∈ above → follows f.form_of (some a) l ≡ true)
-      → follows f.form_of (get_last? above) l ≡ true
+  follows-last : (above : List (Line K)) (l : Line K) → ((a : Line K) → a ∈ above → follows f.form_of (Some a) l ≡ true)
+      → follows f.form_of (last_of above) l ≡ true
   follows-last [] l h = refl
   follows-last (a ∷ []) l h = h a (Memᴰ.head refl)
   follows-last (a ∷ b ∷ above) l h = follows-last (b ∷ above) l (λ m i. h m (Memᴰ.tail i))
@@ -76,11 +75,11 @@ module _ {K : Type 0} (f : Format K) where
   -- a line of lines in order, with those above it and the rest
   module _ (ls above rest : List (Line K)) (l : Line K) (o : in_order f ls ≡ true) (e : ls ≡ above ++ (l ∷ rest)) where
     parts : (in_order f above ≡ true) × (in_order f (l ∷ rest) ≡ true)
-        × ((x y : Line K) → x ∈ above → y ∈ (l ∷ rest) → follows f.form_of (some x) y ≡ true)
+        × ((x y : Line K) → x ∈ above → y ∈ (l ∷ rest) → follows f.form_of (Some x) y ≡ true)
     parts = (in-order-append above (l ∷ rest)).0 (subst (λ (ms : List (Line K)). in_order f ms ≡ true) e o)
 
     -- it is in turn under those above it
-    in-turn-at : follows f.form_of (get_last? above) l ≡ true
+    in-turn-at : follows f.form_of (last_of above) l ≡ true
     in-turn-at = follows-last above l (λ a i. parts.2 a l i (Memᴰ.head refl))
 
     -- lines of an earlier turn all stand above it, and none of a later turn stands yet
@@ -217,17 +216,17 @@ module _ {K : Type 0} (f : Format K) where
 
 -- rows of numbers that rise by those that count
 abbrev pub rows_rise : (by : Option ℕ) → List (List ℕ) → Bool
-rows_rise none xs = true
-rows_rise (some n) xs = rising (map (take n) xs)
+rows_rise None xs = true
+rows_rise (Some n) xs = rising (map (take n) xs)
 
 rows-rise-cons : (by : Option ℕ) (x : List ℕ) (xs : List (List ℕ)) → rows_rise by (x ∷ xs) ≡ true
     → ((y : List ℕ) → y ∈ xs → rises by x y ≡ true) × (rows_rise by xs ≡ true)
-rows-rise-cons none x xs h = ((λ y i. refl), refl)
-rows-rise-cons (some n) x xs h = (rising-map (take n) x xs).0 h
+rows-rise-cons None x xs h = ((λ y i. refl), refl)
+rows-rise-cons (Some n) x xs h = (rising-map (take n) x xs).0 h
 
 not-full-yet : (most : Option ℕ) (m n : ℕ) → AtMost most n → m < n → full most m ≡ false
-not-full-yet none m n h l = refl
-not-full-yet (some k) m n h l = lt-leb k m (omega arith)
+not-full-yet None m n h l = refl
+not-full-yet (Some k) m n h l = lt-leb k m (omega arith)
 
 -- what document 01 asks of the lines of each key, whatever the other keys have
 pub record RowsFit {K : Type 0} (f : Format K) (rows : K → List (List ℕ)) : Type 0 where
@@ -318,5 +317,5 @@ module _ {K : Type 0} (f : Format K) (regular : Regular f) (ls : List (Line K)) 
       }
     where
       go : (k : K) → k ∈ f.keys → (by : Option ℕ) → (f.form_of k).by ≡ by → rows_rise by (numbers_of f.form_of k ls) ≡ true
-      go k i none e = refl
-      go k i (some n) e = key-rises f regular k i n e ls h.in-form (passing-in-order f regular ls h)
+      go k i None e = refl
+      go k i (Some n) e = key-rises f regular k i n e ls h.in-form (passing-in-order f regular ls h)

@@ -1,12 +1,10 @@
 -- Reading and writing lines, for both kinds of file: which lists of lines are accepted, and that such lines and their bytes give each other.
 -- A line's parts between the bytes =, comma and 10 give the line, and the line's key and numerals give the parts.
-use Rattle.std.specs.Prelude.{ℕ, suc, ◌≡◌, ◌↔◌, Bool, not, ◌&&◌, length, eqb, ltb}
+use Rattle.std.specs.Prelude.{is_some, unwrap_or, ℕ, suc, ◌≡◌, ◌↔◌, Bool, not, ◌&&◌, length, eqb, ltb, option_map, Option, None, Some}
 use Rattle.std.proofs.Common.{arith, ap₂, ◌∙◌, ⊎_elim}
 use Rattle.std.proofs.Math.Path.{refl, ap, sym, subst}
 use Rattle.std.proofs.Math.Bool.{true, false, cond}
 use Rattle.std.proofs.lemmas.Bool.{false≢true}
-use Rattle.std.proofs.Math.Option
-use Rattle.std.proofs.Math.Option.{Option, none, some, none-ne-some, map-eq-some_iff}
 use mathlib.Core.List.Memᴰ
 use mathlib.Core.List.{List, [], ◌∷◌, ◌++◌, map, append_assoc, append-nil}
 use Rattle.lists.specs.Lists.{keep, ◌∈◌, all, member, find, each}
@@ -30,9 +28,9 @@ use Rattle.model.specs.declared.Refusal.TheVariants.{Malformed}
 
 -- the lines of a form are limited: by their number, or by rising
 abbrev pub bounded : (most by : Option ℕ) → Bool
-bounded (some m) by = true
-bounded none (some n) = true
-bounded none none = false
+bounded (Some m) by = true
+bounded None (Some n) = true
+bounded None None = false
 
 module _ {K : Type 0} (f : Format K) where
   -- the lines as they are written
@@ -52,16 +50,16 @@ module _ {K : Type 0} (f : Format K) where
   -- what reading accepts: lines all of which pass, each under those above it, with none missing at the end
   pub record Accepted (above : List (Line K)) (os : List (Option (Line K))) (r : List (Line K)) : Type 0 where
     pub lines : List (Line K)
-    pub given : os ≡ map some lines
+    pub given : os ≡ map Some lines
     pub result : r ≡ above ++ lines
     pub pass : all_pass f above lines ≡ true
     pub complete : f.complete r ≡ true
 
   -- lines that all pass are read
   reading-lines : (above ls : List (Line K)) → all_pass f above ls ≡ true → f.complete (above ++ ls) ≡ true
-      → reading f above (map some ls) ≡ accepted (above ++ ls)
+      → reading f above (map Some ls) ≡ accepted (above ++ ls)
   unfolding reading
-  reading-lines above ls h c = ap (reading f above) (sym (append-nil (map some ls))) ∙ reading-through f above ls [] h ∙ rw c
+  reading-lines above ls h c = ap (reading f above) (sym (append-nil (map Some ls))) ∙ reading-through f above ls [] h ∙ rw c
 
   accepted-end : (above r : List (Line K)) → reading f above [] ≡ accepted r → Accepted above [] r
   unfolding reading
@@ -75,23 +73,23 @@ module _ {K : Type 0} (f : Format K) where
 
   accepted-line : (above : List (Line K)) (l : Line K) (os : List (Option (Line K))) (r : List (Line K))
       → (reading f (above ++ (l ∷ [])) os ≡ accepted r → Accepted (above ++ (l ∷ [])) os r)
-      → reading f above (some l ∷ os) ≡ accepted r
-      → (t : Bool) → passes f above l ≡ t → Accepted above (some l ∷ os) r
+      → reading f above (Some l ∷ os) ≡ accepted r
+      → (t : Bool) → passes f above l ≡ t → Accepted above (Some l ∷ os) r
   accepted-line above l os r more h true e =
       let a = more (sym (reading-passing f above l os e) ∙ h) in
       record {
         lines = l ∷ a.lines;
-        given = ap (λ o. some l ∷ o) a.given;
+        given = ap (λ o. Some l ∷ o) a.given;
         result = a.result ∙ append_assoc above (l ∷ []) a.lines;
         pass = (both (passes f above l) (all_pass f (above ++ (l ∷ [])) a.lines)).1 (e, a.pass);
         complete = a.complete;
       }
-  accepted-line above l os r more h false e = absurd (refused-not-accepted (sym (bad-line-refused f above (some l) os (bad-line f above l e).1) ∙ h))
+  accepted-line above l os r more h false e = absurd (refused-not-accepted (sym (bad-line-refused f above (Some l) os (bad-line f above l e).1) ∙ h))
 
   reading-accepted : (above : List (Line K)) (os : List (Option (Line K))) (r : List (Line K)) → reading f above os ≡ accepted r → Accepted above os r
   reading-accepted above [] r h = accepted-end above r h
-  reading-accepted above (none ∷ os) r h = absurd (refused-not-accepted (sym (bad-line-refused f above none os out-of-form) ∙ h))
-  reading-accepted above (some l ∷ os) r h = accepted-line above l os r (reading-accepted (above ++ (l ∷ [])) os r) h (passes f above l) refl
+  reading-accepted above (None ∷ os) r h = absurd (refused-not-accepted (sym (bad-line-refused f above None os out-of-form) ∙ h))
+  reading-accepted above (Some l ∷ os) r h = accepted-line above l os r (reading-accepted (above ++ (l ∷ [])) os r) h (passes f above l) refl
 
 -- # From bytes to lines
 commas-join : (ns : List ℕ) → commas ns ≡ join 44 (map decimal ns)
@@ -122,6 +120,10 @@ values-back : (ns : List ℕ) → map value (map decimal ns) ≡ ns
 values-back [] = refl
 values-back (n ∷ ns) = ap₂ ◌∷◌ (value-decimal n) (values-back ns)
 
+made-some : {A B : Type 0} (f : A → B) (o : Option A) {b : B} → option_map f o ≡ Some b → (a : A) × (o ≡ Some a) × (f a ≡ b)
+made-some f None h = absurd (false≢true (ap is_some h))
+made-some f (Some a) {b} h = (a, refl, ap (λ o. unwrap_or o b) h)
+
 module _ {K : Type 0} (f : Format K) where
   -- a line without the byte that ends it
   abbrev pub body : Line K → List ℕ
@@ -130,14 +132,14 @@ module _ {K : Type 0} (f : Format K) where
   abbrev pub Spelled : List ℕ → Line K → Type 0
   Spelled w l = (w ≡ body l) × LineInForm f l
 
-  parts-spelled : (ps : List (List ℕ)) (l : Line K) → line_of f ps ≡ some l → Spelled (join 61 ps) l
-  parts-spelled [] l h = absurd (none-ne-some l h)
-  parts-spelled (key ∷ []) l h = absurd (none-ne-some l h)
+  parts-spelled : (ps : List (List ℕ)) (l : Line K) → line_of f ps ≡ Some l → Spelled (join 61 ps) l
+  parts-spelled [] l h = absurd (false≢true (ap is_some h))
+  parts-spelled (key ∷ []) l h = absurd (false≢true (ap is_some h))
   parts-spelled (key ∷ numbers ∷ []) l h =
       let ts = pieces 44 numbers in
       let inside : K → Bool = λ k. same (f.form_of k).key key && in_form (f.form_of k).below ts in
       let made : K → Line K = λ k. record { key = k; numbers = map value ts } in
-      let m = (map-eq-some_iff made (find inside f.keys)).0 h in
+      let m = made-some made (find inside f.keys) h in
       let k = m.0 in
       let at = found-member inside f.keys m.1 in
       let p = (both (same (f.form_of k).key key) (in_form (f.form_of k).below ts)).0 at.1 in
@@ -148,10 +150,10 @@ module _ {K : Type 0} (f : Format K) where
         ap₂ (λ a b. a ++ (61 ∷ b)) (sym same_key) (sym spelled),
         record { listed = at.0; limited = w.0 },
       )
-  parts-spelled (key ∷ numbers ∷ more ∷ rest) l h = absurd (none-ne-some l h)
+  parts-spelled (key ∷ numbers ∷ more ∷ rest) l h = absurd (false≢true (ap is_some h))
 
   -- what is read as a line is the line as it is written, and the line is in form
-  pub line-spelled : (w : List ℕ) (l : Line K) → line_of f (pieces 61 w) ≡ some l → Spelled w l
+  pub line-spelled : (w : List ℕ) (l : Line K) → line_of f (pieces 61 w) ≡ Some l → Spelled w l
   line-spelled w l h = subst (λ v. Spelled v l) (join-pieces 61 w) (parts-spelled (pieces 61 w) l h)
 
   -- a line comes off with the byte that ends it; bytes without that byte are a line out of form
@@ -162,7 +164,7 @@ module _ {K : Type 0} (f : Format K) where
       go : Parted 10 rest → lines_of f (w ∷ pieces 10 rest) ≡ line_of f (pieces 61 w) ∷ lines_of f (pieces 10 rest)
       go p = rw p.parted
 
-  pub lines-last : (b : ℕ) (bs : List ℕ) → member (b ∷ bs) 10 ≡ false → lines_of f (pieces 10 (b ∷ bs)) ≡ none ∷ []
+  pub lines-last : (b : ℕ) (bs : List ℕ) → member (b ∷ bs) 10 ≡ false → lines_of f (pieces 10 (b ∷ bs)) ≡ None ∷ []
   lines-last b bs h = ap (lines_of f) (pieces-one 10 (b ∷ bs) h)
 
   -- the lines as they are written, each in form
@@ -170,7 +172,7 @@ module _ {K : Type 0} (f : Format K) where
     pub text : t ≡ text_of f ls
     pub in-form : (l : Line K) → l ∈ ls → LineInForm f l
 
-  written_last : (w : List ℕ) → member w 10 ≡ false → (ls : List (Line K)) → lines_of f (pieces 10 w) ≡ map some ls → Written w ls
+  written_last : (w : List ℕ) → member w 10 ≡ false → (ls : List (Line K)) → lines_of f (pieces 10 w) ≡ map Some ls → Written w ls
   written_last [] h [] e = record { text = refl; in-form = λ l i. absurd (Memᴰ.not-nil i) }
   written_last [] h (l ∷ ls) e = let z : ◌≡◌ {A = ℕ} 0 1 = cc in absurd (omega arith)
   written_last (b ∷ bs) h [] e = let z : ◌≡◌ {A = ℕ} 0 1 = cc (lines-last b bs h) in absurd (omega arith)
@@ -179,12 +181,12 @@ module _ {K : Type 0} (f : Format K) where
   text-line : (w rest : List ℕ) (l : Line K) (ls : List (Line K)) → w ≡ body l → rest ≡ text_of f ls → w ++ (10 ∷ rest) ≡ text_of f (l ∷ ls)
   text-line w rest l ls e g = ap₂ (λ a b. a ++ (10 ∷ b)) e g ∙ sym (append_assoc (body l) (10 ∷ []) (text_of f ls))
 
-  written-line : (w rest : List ℕ) → member w 10 ≡ false → ((ls : List (Line K)) → lines_of f (pieces 10 rest) ≡ map some ls → Written rest ls)
-      → (ls : List (Line K)) → lines_of f (pieces 10 (w ++ (10 ∷ rest))) ≡ map some ls → Written (w ++ (10 ∷ rest)) ls
+  written-line : (w rest : List ℕ) → member w 10 ≡ false → ((ls : List (Line K)) → lines_of f (pieces 10 rest) ≡ map Some ls → Written rest ls)
+      → (ls : List (Line K)) → lines_of f (pieces 10 (w ++ (10 ∷ rest))) ≡ map Some ls → Written (w ++ (10 ∷ rest)) ls
   written-line w rest h ih [] e = let z : ◌≡◌ {A = ℕ} 0 1 = cc (lines-line w rest h) in absurd (omega arith)
   written-line w rest h ih (l ∷ ls) e =
-      let first : line_of f (pieces 61 w) ≡ some l = cc (lines-line w rest h) in
-      let later : lines_of f (pieces 10 rest) ≡ map some ls = cc (lines-line w rest h) in
+      let first : line_of f (pieces 61 w) ≡ Some l = cc (lines-line w rest h) in
+      let later : lines_of f (pieces 10 rest) ≡ map Some ls = cc (lines-line w rest h) in
       let s = line-spelled w l first in
       let more = ih ls later in
       record {
@@ -193,8 +195,8 @@ module _ {K : Type 0} (f : Format K) where
       }
 
   -- a text that is read as lines is those lines as they are written, and each is in form
-  lines-written : (t : List ℕ) (ls : List (Line K)) → lines_of f (pieces 10 t) ≡ map some ls → Written t ls
-  lines-written = by_lines 10 (λ t. (ls : List (Line K)) → lines_of f (pieces 10 t) ≡ map some ls → Written t ls) written_last written-line
+  lines-written : (t : List ℕ) (ls : List (Line K)) → lines_of f (pieces 10 t) ≡ map Some ls → Written t ls
+  lines-written = by_lines 10 (λ t. (ls : List (Line K)) → lines_of f (pieces 10 t) ≡ map Some ls → Written t ls) written_last written-line
 
   -- the text of lines in form that all pass, with none missing
   pub record Readable (t : List ℕ) (ls : List (Line K)) : Type 0 where
@@ -247,7 +249,7 @@ module _ {K : Type 0} (f : Format K) (regular : Regular f) where
       ∙ ap (λ (bs : List ℕ). length (bs ++ keep (eqb 10) (10 ∷ text_of f ls))) without
       ∙ ap suc rest
 
-  line-of-body : (l : Line K) → LineInForm f l → line_of f (pieces 61 (body f l)) ≡ some l
+  line-of-body : (l : Line K) → LineInForm f l → line_of f (pieces 61 (body f l)) ≡ Some l
   line-of-body l h =
       let key = (f.form_of l.key).key in
       let ns = l.numbers in
@@ -260,12 +262,12 @@ module _ {K : Type 0} (f : Format K) (regular : Regular f) where
       let there = apart-find (λ k. (f.form_of k).key) (λ k. in_form (f.form_of k).below (map decimal ns)) f.keys regular.spelled-apart h.listed
       (within-in-form (f.form_of l.key).below ns h.limited) in
       ap (line_of f) parts
-      ∙ ap (λ ts. Option.map (made ts) (find (inside ts) f.keys)) numerals
-      ∙ ap (Option.map (made (map decimal ns))) there
-      ∙ ap (λ (ms : List ℕ). some record { key = l.key; numbers = ms }) (values-back ns)
+      ∙ ap (λ ts. option_map (made ts) (find (inside ts) f.keys)) numerals
+      ∙ ap (option_map (made (map decimal ns))) there
+      ∙ ap (λ (ms : List ℕ). Some record { key = l.key; numbers = ms }) (values-back ns)
 
   -- lines in form, as they are written, are read as those lines
-  lines-read : (ls : List (Line K)) → ((l : Line K) → l ∈ ls → LineInForm f l) → lines_of f (pieces 10 (text_of f ls)) ≡ map some ls
+  lines-read : (ls : List (Line K)) → ((l : Line K) → l ∈ ls → LineInForm f l) → lines_of f (pieces 10 (text_of f ls)) ≡ map Some ls
   lines-read [] h = refl
   lines-read (l ∷ ls) h =
       let first = h l (Memᴰ.head refl) in

@@ -1,8 +1,7 @@
 -- A listing by `first` and `after` gives exactly the matchings: in a rising list, the first member after a given one is the member that
 -- follows it.
-use Rattle.std.specs.Prelude.{ℕ, ◌≡◌, refl, ◌↔◌, true, List, [], ◌∷◌, ◌++◌, map, length}
+use Rattle.std.specs.Prelude.{ℕ, ◌≡◌, refl, ◌↔◌, true, List, [], ◌∷◌, ◌++◌, map, length, Option}
 use Rattle.std.proofs.Common.{ap, ap₂, ◌∙◌, inr, map-id, append_assoc}
-use Rattle.std.proofs.Math.Option.{Option}
 use mathlib.Core.List.Memᴰ
 use borrow.Author.Tests.{eq-eqb}
 use Rattle.lists.specs.Lists.{◌∈◌}

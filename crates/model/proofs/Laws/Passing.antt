@@ -1,13 +1,12 @@
 -- Lines that all pass: what each line keeps holds of all, they stand in order pairwise, and those of one key rise and are few.
 -- By adding one line at a time; the order of two lines is transitive, since a turn has one key.
-use Rattle.std.specs.Prelude.{ℕ, suc, ◌≤◌, ◌≡◌, refl, ◌↔◌, Bool, true, false, ◌&&◌, length, take, eqb}
+use Rattle.std.specs.Prelude.{ℕ, suc, ◌≤◌, ◌≡◌, refl, ◌↔◌, Bool, true, false, ◌&&◌, length, take, eqb, Option, None, Some}
 use Rattle.std.proofs.Common.{arith, ap, ◌∙◌, sym, subst, inl, inr, ⊎_elim, length-append, leb-false}
 use Rattle.std.proofs.lemmas.Bool.{false≢true}
-use Rattle.std.proofs.Math.Option.{Option, none, some}
 use mathlib.Core.List.Memᴰ
-use mathlib.Core.List.{List, [], ◌∷◌, ◌++◌, map, map-append, get_last?, append_assoc, append-nil}
+use mathlib.Core.List.{List, [], ◌∷◌, ◌++◌, map, map-append, append_assoc, append-nil}
 use Rattle.std.proofs.lemmas.List.{length-map}
-use Rattle.lists.specs.Lists.{◌∈◌, all, keep}
+use Rattle.lists.specs.Lists.{◌∈◌, all, keep, last_of}
 use Rattle.lists.specs.Order.{before, rising}
 use Rattle.lists.proofs.Laws.Lists.{both, not_so, all-members, equals, in-cons, in-append, in-keep, in_map, keep_append}
 use Rattle.lists.proofs.Laws.Order.{lexicographic, before-transitive, rising-cons}
@@ -37,7 +36,7 @@ module _ {K : Type 0} (f : Format K) where
 
   -- what a line that passes meets, part by part
   pub record Meets (above : List (Line K)) (l : Line K) : Type 0 where
-    pub in-turn : follows f.form_of (get_last? above) l ≡ true
+    pub in-turn : follows f.form_of (last_of above) l ≡ true
     pub placed : (f.checks_at above l.key l.numbers).placed ≡ true
     pub room : full (f.form_of l.key).most (length (numbers_of f.form_of l.key above)) ≡ false
     pub declared : (f.checks_at above l.key l.numbers).declared ≡ true
@@ -91,20 +90,20 @@ module _ {K : Type 0} (f : Format K) where
 
 -- # Order
 rises-transitive : (by : Option ℕ) (x y z : List ℕ) → rises by x y ≡ true → rises by y z ≡ true → rises by x z ≡ true
-rises-transitive none x y z h k = refl
-rises-transitive (some n) x y z h k = before-transitive (take n x) (take n y) (take n z) h k
+rises-transitive None x y z h k = refl
+rises-transitive (Some n) x y z h k = before-transitive (take n x) (take n y) (take n z) h k
 
 module _ {K : Type 0} (f : Format K) where
   -- each line follows every line above it
   abbrev pub in_order : List (Line K) → Bool
   in_order [] = true
-  in_order (l ∷ ls) = all (λ m. follows f.form_of (some l) m) ls && in_order ls
+  in_order (l ∷ ls) = all (λ m. follows f.form_of (Some l) m) ls && in_order ls
 
   pub in-order-cons : (l : Line K) (ls : List (Line K))
-      → (in_order (l ∷ ls) ≡ true) ↔ (((m : Line K) → m ∈ ls → follows f.form_of (some l) m ≡ true) × (in_order ls ≡ true))
+      → (in_order (l ∷ ls) ≡ true) ↔ (((m : Line K) → m ∈ ls → follows f.form_of (Some l) m ≡ true) × (in_order ls ≡ true))
   in-order-cons l ls = ((λ h. simp (both, all-members) at h), λ h. simp (both, all-members) h)
 
-  in-order-snoc : (ls : List (Line K)) (l : Line K) → in_order ls ≡ true → ((a : Line K) → a ∈ ls → follows f.form_of (some a) l ≡ true)
+  in-order-snoc : (ls : List (Line K)) (l : Line K) → in_order ls ≡ true → ((a : Line K) → a ∈ ls → follows f.form_of (Some a) l ≡ true)
       → in_order (ls ++ (l ∷ [])) ≡ true
   in-order-snoc [] l h g = refl
   in-order-snoc (a ∷ ls) l h g =
@@ -113,7 +112,7 @@ module _ {K : Type 0} (f : Format K) where
         (λ m i.
             let new = g a (Memᴰ.head refl) in
             ⊎_elim (c.0 m)
-            (λ j. subst (λ n. follows f.form_of (some a) n ≡ true) (sym (Memᴰ.eq_of_singleton j)) new)
+            (λ j. subst (λ n. follows f.form_of (Some a) n ≡ true) (sym (Memᴰ.eq_of_singleton j)) new)
             ((in-append ls (l ∷ [])).0 i)),
         in-order-snoc ls l c.1 (λ b i. g b (Memᴰ.tail i)),
       )
@@ -123,8 +122,8 @@ module _ {K : Type 0} (f : Format K) where
     turn-determines : {j k : K} → j ∈ f.keys → k ∈ f.keys → turn_of f j ≡ turn_of f k → j ≡ k
     turn-determines {j} {k} i h e = rising-map-determines (λ k. turn_of f k ∷ []) f.keys regular.turns-rise j k i h (ap (λ n. n ∷ []) e)
 
-    follows-transitive : (a b c : Line K) → LineInForm f b → LineInForm f c → follows f.form_of (some a) b ≡ true → follows f.form_of (some b) c ≡ true
-        → follows f.form_of (some a) c ≡ true
+    follows-transitive : (a b c : Line K) → LineInForm f b → LineInForm f c → follows f.form_of (Some a) b ≡ true → follows f.form_of (Some b) c ≡ true
+        → follows f.form_of (Some a) c ≡ true
     follows-transitive a b c i j h k =
         let turn : Line K → ℕ = λ l. turn_of f l.key in
         let by : Line K → Option ℕ = λ l. (f.form_of l.key).by in
@@ -144,16 +143,16 @@ module _ {K : Type 0} (f : Format K) where
         first)
 
     follows-each : (above : List (Line K)) (l : Line K) → ((a : Line K) → a ∈ above → LineInForm f a) → LineInForm f l → in_order above ≡ true
-        → follows f.form_of (get_last? above) l ≡ true → (a : Line K) → a ∈ above → follows f.form_of (some a) l ≡ true
+        → follows f.form_of (last_of above) l ≡ true → (a : Line K) → a ∈ above → follows f.form_of (Some a) l ≡ true
     follows-each [] l g h o e a i = absurd (Memᴰ.not-nil i)
-    follows-each (b ∷ []) l g h o e a i = subst (λ c. follows f.form_of (some c) l ≡ true) (sym (Memᴰ.eq_of_singleton i)) e
+    follows-each (b ∷ []) l g h o e a i = subst (λ c. follows f.form_of (Some c) l ≡ true) (sym (Memᴰ.eq_of_singleton i)) e
     follows-each (b ∷ c ∷ above) l g h o e a i =
         let r = (in-order-cons b (c ∷ above)).0 o in
         let later_ones = follows-each (c ∷ above) l (λ m j. g m (Memᴰ.tail j)) h r.1 e in
         let second = Memᴰ.head refl in
         let first = follows-transitive b c l (g c (Memᴰ.tail second)) h (r.0 c second) (later_ones c second) in
         ⊎_elim
-        (λ q. subst (λ m. follows f.form_of (some m) l ≡ true) (sym q) first)
+        (λ q. subst (λ m. follows f.form_of (Some m) l ≡ true) (sym q) first)
         (later_ones a) (in-cons.0 i)
 
     abbrev Ordered : List (Line K) → Type 0
@@ -178,22 +177,22 @@ numbers-append form_of k xs ys =
 
 -- at most as many lines of a key as may stand
 abbrev pub AtMost : Option ℕ → ℕ → Type 0
-AtMost none n = Unit {0}
-AtMost (some most) n = n ≤ most
+AtMost None n = Unit {0}
+AtMost (Some most) n = n ≤ most
 
 none_yet : (most : Option ℕ) → AtMost most 0
-none_yet none = tt
-none_yet (some m) = omega arith
+none_yet None = tt
+none_yet (Some m) = omega arith
 
 not_full : (most : Option ℕ) (n : ℕ) → full most n ≡ false → AtMost most (suc n)
-not_full none n h = tt
-not_full (some most) n h = leb-false most n h
+not_full None n h = tt
+not_full (Some most) n h = leb-false most n h
 
 -- how many lines of a form may stand: as many as document 01 allows, or as can rise
 abbrev pub room : (most by : Option ℕ) (below : List ℕ) → ℕ
-room (some m) by below = m
-room none (some n) below = product (take n below)
-room none none below = 0
+room (Some m) by below = m
+room None (Some n) below = product (take n below)
+room None None below = 0
 
 abbrev pub room_of : Form → ℕ
 room_of form = room form.most form.by form.below
@@ -211,8 +210,8 @@ module _ {K : Type 0} (f : Format K) (regular : Regular f) (k : K) (listed : k �
       let s = (in-keep (λ l. eqb (turn_of f l.key) (turn_of f k)) ls).0 r.1 in
       (r.0, s.0, turn-key r.0 (h r.0 s.0) s.1, r.2)
 
-  module _ (n : ℕ) (by : (f.form_of k).by ≡ some n) where
-    rises-at : (l m : Line K) → l.key ≡ k → m.key ≡ k → follows f.form_of (some l) m ≡ true
+  module _ (n : ℕ) (by : (f.form_of k).by ≡ Some n) where
+    rises-at : (l m : Line K) → l.key ≡ k → m.key ≡ k → follows f.form_of (Some l) m ≡ true
         → before (take n l.numbers) (take n m.numbers) ≡ true
     rises-at l m p q e =
         let same_turn : turn_of f l.key ≡ turn_of f m.key = ap (λ j. turn_of f j) (p ∙ sym q) in
@@ -220,7 +219,7 @@ module _ {K : Type 0} (f : Format K) (regular : Regular f) (k : K) (listed : k �
         ((lexicographic (turn_of f l.key) (turn_of f m.key) (rises (f.form_of m.key).by l.numbers m.numbers)).0 e)
 
     key-rises-at : (l : Line K) (ls : List (Line K)) → ((m : Line K) → m ∈ (l ∷ ls) → LineInForm f m)
-        → ((m : Line K) → m ∈ ls → follows f.form_of (some l) m ≡ true) → rising (map (take n) (numbers_of f.form_of k ls)) ≡ true
+        → ((m : Line K) → m ∈ ls → follows f.form_of (Some l) m ≡ true) → rising (map (take n) (numbers_of f.form_of k ls)) ≡ true
         → (t : Bool) → eqb (turn_of f l.key) (turn_of f k) ≡ t
         → rising (map (take n) (numbers_of f.form_of k (l ∷ ls))) ≡ true
     key-rises-at l ls h g more true e =
@@ -276,11 +275,11 @@ module _ {K : Type 0} (f : Format K) (regular : Regular f) (k : K) (listed : k �
       xs = numbers_of f.form_of k ls
 
       go : (most by : Option ℕ) → (f.form_of k).most ≡ most → (f.form_of k).by ≡ by → bounded most by ≡ true → length xs ≤ room most by (f.form_of k).below
-      go (some m) by e d b = subst (λ o. AtMost o (length xs)) e (passing-at-most ls h)
-      go none (some n) e d b =
+      go (Some m) by e d b = subst (λ o. AtMost o (length xs)) e (passing-at-most ls h)
+      go None (Some n) e d b =
           let few = rising-count (take n (f.form_of k).below) (map (take n) xs) (key-rises n d ls h.in-form (passing-in-order f regular ls h))
           (λ y i.
           let r = (in_map (take n) xs).0 i in
           rw r.2 (within-take n (f.form_of k).below r.0 (within-key ls h.in-form r.0 r.1))) in
           rw length-map at few
-      go none none e d b = absurd (false≢true b)
+      go None None e d b = absurd (false≢true b)

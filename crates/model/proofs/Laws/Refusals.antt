@@ -1,11 +1,10 @@
 -- Each refusal is given exactly when its cause holds and no earlier one does: the record's answers and the table of refusals agree.
 -- Call by call; texts by the laws of reading, operations by the places that get a new node and by the joined edges.
-use Rattle.std.specs.Prelude.{ℕ, ◌+◌, ◌≡◌, refl, ◌↔◌, Bool, true, false, cond, length, eqb, ltb, leb}
+use Rattle.std.specs.Prelude.{ℕ, ◌+◌, ◌≡◌, refl, ◌↔◌, Bool, true, false, cond, length, eqb, ltb, leb, Option, None, Some}
 use Rattle.std.proofs.Common.{arith, ap, ◌∙◌, sym, inl, true≢false, ne_eqb, ltb-true, ltb-false, leb-true, leb-false, lt-ltb, le-ltb, le-leb}
 use Rattle.std.proofs.Math.Path.{subst}
 use Rattle.std.proofs.Math.Logic.{⊎_elim}
 use Rattle.std.proofs.Math.Logic.Iff
-use Rattle.std.proofs.Math.Option.{Option, none, some}
 use mathlib.Core.List.{List, [], ◌∷◌, map}
 use Rattle.std.proofs.lemmas.List.{length-map}
 use Rattle.std.proofs.lemmas.Bool.{eqb-false, lt-leb}
@@ -96,9 +95,9 @@ smallest-torn : (s : Scheme) (d : Instance) (es : List Triple) (o : Option (Node
 smallest-torn s d es o h = finds-smallest (λ m. m.number ∷ []) (λ m. torn s es m.number) d.nodes o h
 
 unless-torn : (o : Option (Node ℕ)) (d : Instance) {x : Refusal}
-    → (unless_torn o d ≡ refused x) ↔ ((n : Node ℕ) × (o ≡ some n) × (FunctionalClash n.number ≡ x))
-unless-torn none d = ((λ h. absurd (refused-not-accepted (sym h))), λ h. let z : ◌≡◌ {A = ℕ} 0 1 = cc in absurd (omega arith))
-unless-torn (some n) d = ((λ h. (n, refl, same-refusal h)), λ h. cc)
+    → (unless_torn o d ≡ refused x) ↔ ((n : Node ℕ) × (o ≡ Some n) × (FunctionalClash n.number ≡ x))
+unless-torn None d = ((λ h. absurd (refused-not-accepted (sym h))), λ h. let z : ◌≡◌ {A = ℕ} 0 1 = cc in absurd (omega arith))
+unless-torn (Some n) d = ((λ h. (n, refl, same-refusal h)), λ h. cc)
 
 -- # Operations
 module _ (s : Scheme) (ms : List (List ℕ)) (d : Instance) (w : WellFormed s d) where
@@ -112,7 +111,7 @@ module _ (s : Scheme) (ms : List (List ℕ)) (d : Instance) (w : WellFormed s d)
       (λ q.
       let r = (unless-torn (find (λ n. torn s es n.number) d.nodes) _).0 q.1 in
       subst (Declines s ms d (add_edges ts)) r.2
-      (clash es j (ltb-false Limits.edges (length es) q.0) ((smallest-torn s d es (some r.0) w.nodes-rise).0 r.1)))
+      (clash es j (ltb-false Limits.edges (length es) q.0) ((smallest-torn s d es (Some r.0) w.nodes-rise).0 r.1)))
       ((unless-refused (ltb Limits.edges (length es)) _ _ x).0 e)
 
   -- an operation is refused with 9 to 12 only, and for their causes
@@ -140,8 +139,8 @@ module _ (s : Scheme) (ms : List (List ℕ)) (d : Instance) (w : WellFormed s d)
   declines-perform (add_edges ts) x (clash es {n = n} j k r) =
       let union = join_edges (images ts ms) d.edges in
       let same = joined_once ts ms d es union j (joined ts ms d w.edges-rise) in
-      let smallest = subst (λ (fs : List Triple). SmallestTorn s d fs (some n)) same r in
-      rw (le-ltb Limits.edges (length union) (rw same at k), (smallest-torn s d union (some n) w.nodes-rise).1 smallest)
+      let smallest = subst (λ (fs : List Triple). SmallestTorn s d fs (Some n)) same r in
+      rw (le-ltb Limits.edges (length union) (rw same at k), (smallest-torn s d union (Some n) w.nodes-rise).1 smallest)
 
 -- # Calls
 open-refused : (t : List ℕ) (x : Refusal) → (read_drawing t ≡ refused x) ↔ BadText drawing_format t x
@@ -196,10 +195,10 @@ shut-refused (First rule) h = refl
 shut-refused (After rule list) h = refl
 shut-refused (Save buffer) h = refl
 
-no-rule : {rule : List ℕ} → ◌≡◌ {A = Option (List ℕ)} none (some rule) → ⊥
+no-rule : {rule : List ℕ} → ◌≡◌ {A = Option (List ℕ)} None (Some rule) → ⊥
 no-rule h = let z : ◌≡◌ {A = ℕ} 0 1 = cc in omega arith
 
-bad-rule-refused : (s : Scheme) (d : Instance) (cs : List Instance) (c : Call) {rule : List ℕ} {x : Refusal} → rule_of c ≡ some rule
+bad-rule-refused : (s : Scheme) (d : Instance) (cs : List Instance) (c : Call) {rule : List ℕ} {x : Refusal} → rule_of c ≡ Some rule
     → read_rule s rule ≡ refused x → accept (opened s d cs) c ≡ refused x
 unfolding accept
 bad-rule-refused s d cs (Open file) h e = absurd (no-rule h)

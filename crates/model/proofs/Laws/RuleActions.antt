@@ -2,12 +2,11 @@
 -- The code has one kind of action line, of which the first stands; an action line was checked under the whole pattern.
 use Prim.Native.Nat.{ℕ, zero, suc, ◌<◌, ◌≤◌}
 use Rattle.std.proofs.Common.{arith, ap, ◌∙◌, sym, inl, inr, eq-eqb, eqb-true, ltb-true}
-use Rattle.std.specs.Prelude.{◌≡◌, ◌⊎◌, Bool, length, take, get_or, eqb}
+use Rattle.std.specs.Prelude.{◌≡◌, ◌⊎◌, Bool, length, take, get_or, eqb, Some}
 use Rattle.std.proofs.Math.Path.{refl, subst}
 use Rattle.std.proofs.Math.Logic.{⊎_elim}
 use Rattle.std.proofs.Math.Bool.{true}
 use Rattle.std.proofs.lemmas.Bool.{false≢true}
-use Rattle.std.proofs.Math.Option.{some}
 use mathlib.Core.List.Memᴰ
 use mathlib.Core.List.{List, [], ◌∷◌, map, map-map}
 use Rattle.std.proofs.Math.ListN.{length-map}
@@ -119,7 +118,7 @@ module _ (s : Scheme) (ls : RuleLines) (passing : Passing (rule_format s) ls) wh
     first_of k h = first_member (numbers k) [] ((any-member (λ x. true) (numbers k)).0 h).1
 
     -- the first k numbers of the lines of a key, as the lines rise by them
-    firsts-rise : (k : RuleKey) (n : ℕ) → (rule_form k).by ≡ some n → (f : List ℕ → List ℕ) → ((x : List ℕ) → x ∈ numbers k → f x ≡ take n x)
+    firsts-rise : (k : RuleKey) (n : ℕ) → (rule_form k).by ≡ Some n → (f : List ℕ → List ℕ) → ((x : List ℕ) → x ∈ numbers k → f x ≡ take n x)
         → rising (map f (numbers k)) ≡ true
     firsts-rise k n e f h = rw (map_same f (take n) (numbers k) h) (rise s ls passing k n e)
 
@@ -151,7 +150,7 @@ module _ (s : Scheme) (ls : RuleLines) (passing : Passing (rule_format s) ls) wh
         let made = at_key s ls passing make= (numbers_at make= ls) (first_of make= (leads 1 (omega arith) h)) in
         simp (both, at_most, all-members) (((made.meets.suited, rw length-map (few s ls passing arm=)), arms-rise), arm-suits)
 
-    some_edges_lem : (k : RuleKey) (most : ℕ) → stand k ls ≡ true → room_of (rule_form k) ≡ most → (rule_form k).by ≡ some 3 → length (rule_form k).below ≡ 3
+    some_edges_lem : (k : RuleKey) (most : ℕ) → stand k ls ≡ true → room_of (rule_form k) ≡ most → (rule_form k).by ≡ Some 3 → length (rule_form k).below ≡ 3
         → some_edges most (map triple_of (numbers k)) ≡ true
     some_edges_lem k most h m e n =
         simp (both, at_most) ((rw length-map (any-length (numbers k) h), rw (length-map, ← m) (few s ls passing k)), triples-rise s ls passing k e n)

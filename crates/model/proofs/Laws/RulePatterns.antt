@@ -1,9 +1,8 @@
 -- The pattern of an accepted rule text is sorted, within the limits and conforms.
 -- Each line was checked under the lines above it, where all lines of earlier keys stand.
-use Rattle.std.specs.Prelude.{ℕ, suc, ◌<◌, ◌≤◌, ◌≡◌, Bool, true, false, cond, not, ◌||◌, List, [], ◌∷◌, ◌++◌, map, length, take, leb}
+use Rattle.std.specs.Prelude.{ℕ, suc, ◌<◌, ◌≤◌, ◌≡◌, Bool, true, false, cond, not, ◌||◌, List, [], ◌∷◌, ◌++◌, map, length, take, leb, Option, None, Some}
 use Rattle.std.proofs.Common.{arith, ap, ◌∙◌, subst, ⊎_elim, append-nil, take_all, eqb-true, le-leb}
 use Rattle.std.proofs.Math.Path.{refl, ap₂, sym}
-use Rattle.std.proofs.Math.Option.{Option, none, some}
 use mathlib.Core.List.Memᴰ
 use Rattle.std.proofs.lemmas.Simd.{map-map}
 use Rattle.std.proofs.lemmas.List.{length-map}
@@ -48,7 +47,7 @@ numbered-rise i xs =
 
 -- # Values
 given_by : (s : Scheme) → ListedScheme s → (c given v : ℕ) → declares s.classes c ≡ true → (not (is_object s c) || eqb given 0) ≡ true → v ≤ Limits.last_value
-    → (t : Bool) → eqb given 1 ≡ t → given_in s c (cond t (some v) none) ≡ true
+    → (t : Bool) → eqb given 1 ≡ t → given_in s c (cond t (Some v) None) ≡ true
 given_by s listed c given v d h l true e =
     let object : is_object s c ≡ false =
     ⊎_elim (not_so (is_object s c)).0 (λ z. absurd (omega (arith, eqb-true given 1 e, eqb-true given 0 z)))
@@ -58,7 +57,7 @@ given_by s listed c given v d h l false e = d
 
 -- a pattern node is what a line says
 in-nodes : (i : ℕ) (xs : List (List ℕ)) (n : Node (Option ℕ)) → n ∈ nodes_from i xs
-    → (x : List ℕ) × (x ∈ xs) × ((n.class ≡ x ! 0) × (n.value ≡ cond (eqb (x ! 1) 1) (some (x ! 2)) none))
+    → (x : List ℕ) × (x ∈ xs) × ((n.class ≡ x ! 0) × (n.value ≡ cond (eqb (x ! 1) 1) (Some (x ! 2)) None))
 in-nodes i [] n h = absurd (Memᴰ.not-nil h)
 in-nodes i (x ∷ xs) n h = ⊎_elim
     (λ e. (x, Memᴰ.head refl, (ap (λ (m : Node (Option ℕ)). m.class) e, ap (λ (m : Node (Option ℕ)). m.value) e)))
@@ -103,7 +102,7 @@ module _ (s : Scheme) (ls : RuleLines) (passing : Passing (rule_format s) ls) wh
   unfolding rule_format
   few k = passing-room (rule_format s) (regular s) k (key-listed k) ls passing
 
-  pub rise : (k : RuleKey) (n : ℕ) → (rule_form k).by ≡ some n → rising (map (take n) (numbers k)) ≡ true
+  pub rise : (k : RuleKey) (n : ℕ) → (rule_form k).by ≡ Some n → rising (map (take n) (numbers k)) ≡ true
   unfolding rule_format
   rise k n e = key-rises (rule_format s) (regular s) k (key-listed k) n e ls passing.in-form (passing-in-order (rule_format s) (regular s) ls passing)
 
@@ -118,7 +117,7 @@ module _ (s : Scheme) (ls : RuleLines) (passing : Passing (rule_format s) ls) wh
       ap₂ (λ (xs es : List (List ℕ)). record { nodes = nodes_from 0 xs; edges = map triple_of es })
       (sym (earlier k pnode= x p (omega arith))) (sym (earlier k pedge= x p h))
 
-  pub triples-rise : (k : RuleKey) → (rule_form k).by ≡ some 3 → length (rule_form k).below ≡ 3 → rising (map row (map triple_of (numbers k))) ≡ true
+  pub triples-rise : (k : RuleKey) → (rule_form k).by ≡ Some 3 → length (rule_form k).below ≡ 3 → rising (map row (map triple_of (numbers k))) ≡ true
   triples-rise k e n = rw (map-map row triple_of (numbers k), map_same (λ x. row (triple_of x)) (take 3) (numbers k) whole) (rise k 3 e)
     where
       whole : (x : List ℕ) → x ∈ numbers k → row (triple_of x) ≡ take 3 x

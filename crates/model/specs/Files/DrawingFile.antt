@@ -1,6 +1,5 @@
 -- "Drawing: class=number,kind; name=number,kind; may=class,name,class; node=number,class,value; edge=source,name,target."
-use Rattle.std.specs.Prelude.{ℕ, suc, Bool, true, not, ◌&&◌, ◌||◌, List, [], ◌∷◌, ◌++◌, map, eqb}
-use Rattle.std.proofs.Math.Option.{none, some}
+use Rattle.std.specs.Prelude.{ℕ, suc, Bool, true, not, ◌&&◌, ◌||◌, List, [], ◌∷◌, ◌++◌, map, eqb, None, Some}
 use Rattle.lists.specs.Lists.{each, ◌!◌}
 use Rattle.model.specs.Limits
 use Rattle.model.specs.Graph.{Declared, Scheme, Node, Instance, declares, is_object, is_value, row, stands, conforms}
@@ -13,11 +12,11 @@ pub data DrawingKey : Type 0 where
 
 -- "repeated keys strictly rising by their numbers (node: by its number; class, name, arm: by the first number ..)"
 abbrev pub drawing_form : DrawingKey → Form
-drawing_form class= = form 0 "class" (Limits.classes ∷ Limits.kinds ∷ []) (some 1) none
-drawing_form name= = form 1 "name" (Limits.names ∷ Limits.kinds ∷ []) (some 1) none
-drawing_form may= = form 2 "may" (Limits.classes ∷ Limits.names ∷ Limits.classes ∷ []) (some 3) (some Limits.permitted)
-drawing_form node= = form 3 "node" (suc Limits.last_number ∷ Limits.classes ∷ suc Limits.last_value ∷ []) (some 1) (some Limits.nodes)
-drawing_form edge= = form 4 "edge" (suc Limits.last_number ∷ Limits.names ∷ suc Limits.last_number ∷ []) (some 3) (some Limits.edges)
+drawing_form class= = form 0 "class" (Limits.classes ∷ Limits.kinds ∷ []) (Some 1) None
+drawing_form name= = form 1 "name" (Limits.names ∷ Limits.kinds ∷ []) (Some 1) None
+drawing_form may= = form 2 "may" (Limits.classes ∷ Limits.names ∷ Limits.classes ∷ []) (Some 3) (Some Limits.permitted)
+drawing_form node= = form 3 "node" (suc Limits.last_number ∷ Limits.classes ∷ suc Limits.last_value ∷ []) (Some 1) (Some Limits.nodes)
+drawing_form edge= = form 4 "edge" (suc Limits.last_number ∷ Limits.names ∷ suc Limits.last_number ∷ []) (Some 3) (Some Limits.edges)
 
 abbrev pub DrawingLines : Type 0
 DrawingLines = List (Line DrawingKey)

@@ -1,7 +1,6 @@
 -- "Rule: op=code, code 0..5; pnode=class,given,value ..; pedge=node,name,node. Then for 1 make=class and arm=name,node;
 -- 2 put=node,name,node; 3 drop=node; 4 cut=node,name,node; 5 group=p,K,a,b; 0, a pattern only, has no more."
-use Rattle.std.specs.Prelude.{ℕ, suc, Bool, true, cond, not, ◌&&◌, ◌||◌, List, [], ◌∷◌, ◌++◌, map, get_or, eqb, ltb}
-use Rattle.std.proofs.Math.Option.{Option, none, some}
+use Rattle.std.specs.Prelude.{ℕ, suc, Bool, true, cond, not, ◌&&◌, ◌||◌, List, [], ◌∷◌, ◌++◌, map, get_or, eqb, ltb, Option, None, Some}
 use Rattle.lists.specs.Lists.{any, ◌!◌}
 use Rattle.model.specs.Limits
 use Rattle.model.specs.Graph.{Scheme, Node, Pattern, declares, is_object, is_functional, is_multivalued, has, joins}
@@ -19,15 +18,15 @@ pattern_edge = Limits.pattern_nodes ∷ Limits.names ∷ Limits.pattern_nodes �
 
 -- "Op, make, drop and group stand once"; "pnode: free"
 abbrev pub rule_form : RuleKey → Form
-rule_form op= = form 0 "op" (Limits.codes ∷ []) (some 0) none
-rule_form pnode= = form 1 "pnode" (Limits.classes ∷ Limits.kinds ∷ suc Limits.last_value ∷ []) none (some Limits.pattern_nodes)
-rule_form pedge= = form 2 "pedge" pattern_edge (some 3) (some Limits.pattern_edges)
-rule_form make= = form 3 "make" (Limits.classes ∷ []) (some 0) none
-rule_form arm= = form 4 "arm" (Limits.names ∷ Limits.pattern_nodes ∷ []) (some 1) (some Limits.arms)
-rule_form put= = form 5 "put" pattern_edge (some 3) (some Limits.puts)
-rule_form drop= = form 6 "drop" (Limits.pattern_nodes ∷ []) (some 0) none
-rule_form cut= = form 7 "cut" pattern_edge (some 3) (some Limits.cuts)
-rule_form group= = form 8 "group" (Limits.pattern_nodes ∷ Limits.classes ∷ Limits.names ∷ Limits.names ∷ []) (some 0) none
+rule_form op= = form 0 "op" (Limits.codes ∷ []) (Some 0) None
+rule_form pnode= = form 1 "pnode" (Limits.classes ∷ Limits.kinds ∷ suc Limits.last_value ∷ []) None (Some Limits.pattern_nodes)
+rule_form pedge= = form 2 "pedge" pattern_edge (Some 3) (Some Limits.pattern_edges)
+rule_form make= = form 3 "make" (Limits.classes ∷ []) (Some 0) None
+rule_form arm= = form 4 "arm" (Limits.names ∷ Limits.pattern_nodes ∷ []) (Some 1) (Some Limits.arms)
+rule_form put= = form 5 "put" pattern_edge (Some 3) (Some Limits.puts)
+rule_form drop= = form 6 "drop" (Limits.pattern_nodes ∷ []) (Some 0) None
+rule_form cut= = form 7 "cut" pattern_edge (Some 3) (Some Limits.cuts)
+rule_form group= = form 8 "group" (Limits.pattern_nodes ∷ Limits.classes ∷ Limits.names ∷ Limits.names ∷ []) (Some 0) None
 
 abbrev pub rule_keys : List RuleKey
 rule_keys = op= ∷ pnode= ∷ pedge= ∷ make= ∷ arm= ∷ put= ∷ drop= ∷ cut= ∷ group= ∷ []
@@ -40,7 +39,7 @@ RuleLines = List (Line RuleKey)
 abbrev pub nodes_from : ℕ → List (List ℕ) → List (Node (Option ℕ))
 nodes_from i [] = []
 nodes_from i (x ∷ xs) =
-    record { number = i; class = x ! 0; value = cond (eqb (x ! 1) 1) (some (x ! 2)) none } ∷ nodes_from (suc i) xs
+    record { number = i; class = x ! 0; value = cond (eqb (x ! 1) 1) (Some (x ! 2)) None } ∷ nodes_from (suc i) xs
 
 abbrev pub pattern_in : RuleLines → Pattern
 pattern_in ls =

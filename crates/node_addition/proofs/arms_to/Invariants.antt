@@ -3,7 +3,4 @@ use Rattle.node_addition.specs.Laws.Adding.{ArmsLeft}
 use Rattle.node_addition.proofs.arms_to.Given as goal
 
 abbrev pub invariant-loop-i : goal.invariant-loop-i
-invariant-loop-i l = ArmsLeft l.arms l.key l.initial.to l.i l.left l.to
-
-abbrev pub decreases-loop-i : goal.decreases-loop-i
-decreases-loop-i l = l.i
+invariant-loop-i l = ArmsLeft l.arms l.key l.i l.left l.to

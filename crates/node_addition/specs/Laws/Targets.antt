@@ -3,10 +3,9 @@
 use Prim.Native.Nat.{ℕ, ◌+◌, ◌*◌, ◌/◌, ◌%◌, ◌^◌, ◌<◌, ◌≤◌}
 use Rattle.std.proofs.Common.{le_refl, arith, ap₂, ◌∙◌, true≢false, length-append}
 use Rattle.std.proofs.Math.Path.{◌≡◌, refl, ap, sym, subst}
-use Rattle.std.specs.Prelude.{◌↔◌, Bool, true, false, length, eqb}
+use Rattle.std.specs.Prelude.{◌↔◌, Bool, true, false, length, eqb, Option, None, Some, option_map, option_and_then, option_to_list}
 use Rattle.std.proofs.Math.Logic.{⊎_elim}
 use Rattle.std.proofs.Math.Bool.{cond}
-use Rattle.std.proofs.Math.Option.{Option, none, some}
 use mathlib.Core.List.Memᴰ
 use mathlib.Core.List.{List, [], ◌∷◌, map}
 use Rattle.lists.specs.Lists.{◌∈◌, find}
@@ -18,7 +17,7 @@ use Rattle.model.specs.Meaning.{edge_at}
 use Rattle.model.proofs.Laws.Sound.{WellFormed}
 use Rattle.model.proofs.Laws.Serves.{served-node}
 use Rattle.graph.specs.Packed.{unpack_triple, unpack_node, instance_of}
-use Rattle.serving.specs.Served.{first_target, served_key, served_keys, target_of, go_on, listed}
+use Rattle.serving.specs.Served.{first_target, served_key, served_keys}
 use Rattle.node_addition.specs.Laws.Keyed.{key_after, key_of, Placed, placed_first, placed-rest, placed-not-less, placed-not-more, key-determines}
 
 -- each node has one key at most
@@ -29,9 +28,9 @@ served-few K arms edges (n ∷ nodes) =
     let h = go (eqb (n / 2 ^ 32 % 2 ^ 6) K) (served_key edges (n / 2 ^ 38) 0 arms) in
     simp length-append (omega (arith, served-few K arms edges nodes))
   where
-    go : (t : Bool) (o : Option ℕ) → length (cond t (listed o) []) ≤ 1
-    go true none = omega arith
-    go true (some k) = omega arith
+    go : (t : Bool) (o : Option ℕ) → length (cond t (option_to_list o) []) ≤ 1
+    go true None = omega arith
+    go true (Some k) = omega arith
     go false o = omega arith
 
 abbrev arm : (name node : ℕ) → Arm
@@ -56,35 +55,35 @@ module _ (edges : List ℕ) (number name : ℕ) (narrow : name < 2 ^ 6) where
   )
 
   -- a first target is one
-  is-target : (t : ℕ) → first_target edges number name ≡ some t → (edge_at number (arm name t) ∈ map unpack_triple edges) × (t < 2 ^ 16)
+  is-target : (t : ℕ) → first_target edges number name ≡ Some t → (edge_at number (arm name t) ∈ map unpack_triple edges) × (t < 2 ^ 16)
   unfolding first_target
   is-target t h = go (find here edges) refl h
     where
-      go : (o : Option ℕ) → find here edges ≡ o → target_of o ≡ some t → (edge_at number (arm name t) ∈ map unpack_triple edges) × (t < 2 ^ 16)
-      go none e q = let z : ◌≡◌ {A = ℕ} 0 1 = cc in absurd (omega arith)
-      go (some k) e q =
+      go : (o : Option ℕ) → find here edges ≡ o → option_map (λ k. k % 2 ^ 16) o ≡ Some t → (edge_at number (arm name t) ∈ map unpack_triple edges) × (t < 2 ^ 16)
+      go None e q = let z : ◌≡◌ {A = ℕ} 0 1 = cc in absurd (omega arith)
+      go (Some k) e q =
           let f = found-member here edges e in
           let same : k % 2 ^ 16 ≡ t = cc in
           ((in_map unpack_triple edges).1 (k, f.0, ap (λ i. edge_at number (arm name i)) (sym same) ∙ sym ((key_here k).0 f.1)), omega arith)
 
   -- and the only one
   only-target : ((t u : ℕ) → edge_at number (arm name t) ∈ map unpack_triple edges → edge_at number (arm name u) ∈ map unpack_triple edges → t ≡ u)
-      → (t : ℕ) → edge_at number (arm name t) ∈ map unpack_triple edges → first_target edges number name ≡ some t
+      → (t : ℕ) → edge_at number (arm name t) ∈ map unpack_triple edges → first_target edges number name ≡ Some t
   unfolding first_target
   only-target one t i = go (find here edges) refl
     where
-      go : (o : Option ℕ) → find here edges ≡ o → target_of o ≡ some t
-      go none e =
+      go : (o : Option ℕ) → find here edges ≡ o → option_map (λ k. k % 2 ^ 16) o ≡ Some t
+      go None e =
           let r = (in_map unpack_triple edges).0 i in
           let k = r.0 in
           let same : k % 2 ^ 16 ≡ t = sym (ap (λ (u : Triple). u.target) r.2) in
           let q = (key_here k).1 (sym r.2 ∙ ap (λ j. edge_at number (arm name j)) (sym same)) in
           absurd (true≢false (sym q ∙ (finds-none here edges).0 e k r.1))
-      go (some k) e =
+      go (Some k) e =
           let f = found-member here edges e in
           let u = (key_here k).0 f.1 in
           let j = (in_map unpack_triple edges).1 (k, f.0, sym u) in
-          ap some (one (k % 2 ^ 16) t j i)
+          ap Some (one (k % 2 ^ 16) t j i)
 
 -- # The keys of all nodes
 module _ (s : Scheme) (nodes edges : List ℕ) (h : WellFormed s (instance_of nodes edges)) (arms : List ℕ)
@@ -114,7 +113,7 @@ module _ (s : Scheme) (nodes edges : List ℕ) (h : WellFormed s (instance_of no
     links : Links number ends
 
   from-served : (number k : ℕ) (left : List ℕ) → ((a : ℕ) → a ∈ left → a ∈ arms)
-      → (x : ℕ) → served_key edges number k left ≡ some x → Linked number k x left
+      → (x : ℕ) → served_key edges number k left ≡ Some x → Linked number k x left
   unfolding served_key key_after
   from-served number k [] sub x e =
       record {
@@ -127,11 +126,11 @@ module _ (s : Scheme) (nodes edges : List ℕ) (h : WellFormed s (instance_of no
       go (first_target edges number (a / 2 ^ 16)) refl (λ t. from-served number (k * 2 ^ 16 + t) left (λ b i. sub b (Memᴰ.tail i)) x) e
     where
       go : (o : Option ℕ) → first_target edges number (a / 2 ^ 16) ≡ o
-          → ((t : ℕ) → served_key edges number (k * 2 ^ 16 + t) left ≡ some x → Linked number (k * 2 ^ 16 + t) x left)
-          → go_on o (λ t. served_key edges number (k * 2 ^ 16 + t) left) ≡ some x
+          → ((t : ℕ) → served_key edges number (k * 2 ^ 16 + t) left ≡ Some x → Linked number (k * 2 ^ 16 + t) x left)
+          → option_and_then (λ t. served_key edges number (k * 2 ^ 16 + t) left) o ≡ Some x
           → Linked number k x (a ∷ left)
-      go none f more q = let z : ◌≡◌ {A = ℕ} 0 1 = cc in absurd (omega arith)
-      go (some t) f more q =
+      go None f more q = let z : ◌≡◌ {A = ℕ} 0 1 = cc in absurd (omega arith)
+      go (Some t) f more q =
           let r = more t q in
           let name = a / 2 ^ 16 in
           let g = is-target edges number name (functional a (sub a (Memᴰ.head refl))).1 t f in
@@ -146,7 +145,7 @@ module _ (s : Scheme) (nodes edges : List ℕ) (h : WellFormed s (instance_of no
           }
 
   to-served : (number k : ℕ) (left : List ℕ) → ((a : ℕ) → a ∈ left → a ∈ arms) → (es : List Arm) → Placed left es → Links number es
-      → served_key edges number k left ≡ some (key_after k es)
+      → served_key edges number k left ≡ Some (key_after k es)
   unfolding served_key key_after
   to-served number k [] sub [] p l = refl
   to-served number k [] sub (e ∷ es) p l = absurd (placed-not-less p)
@@ -184,9 +183,9 @@ module _ (s : Scheme) (nodes edges : List ℕ) (h : WellFormed s (instance_of no
   )
     where
       keys : ℕ → List ℕ
-      keys n = cond (eqb (n / 2 ^ 32 % 2 ^ 6) K) (listed (served_key edges (n / 2 ^ 38) 0 arms)) []
+      keys n = cond (eqb (n / 2 ^ 32 % 2 ^ 6) K) (option_to_list (served_key edges (n / 2 ^ 38) 0 arms)) []
 
-      only : (t : Bool) (o : Option ℕ) → key_of es ∈ cond t (listed o) [] → (t ≡ true) × (o ≡ some (key_of es))
-      only true none i = absurd (Memᴰ.not-nil i)
-      only true (some k) i = (refl, ap some (sym (Memᴰ.eq_of_singleton i)))
+      only : (t : Bool) (o : Option ℕ) → key_of es ∈ cond t (option_to_list o) [] → (t ≡ true) × (o ≡ Some (key_of es))
+      only true None i = absurd (Memᴰ.not-nil i)
+      only true (Some k) i = (refl, ap Some (sym (Memᴰ.eq_of_singleton i)))
       only false o i = absurd (Memᴰ.not-nil i)

@@ -28,7 +28,7 @@ use Rattle.model.proofs.Laws.Additions.{new-above, new-nodes-exactly}
 use Rattle.model.proofs.Laws.Serves.{sources-stand, served-node}
 use Rattle.graph.specs.Packed.{unpack_node, unpack_arm, instance_of}
 use Rattle.notes.specs.Notes.{most, note, note_all}
-use Rattle.notes.specs.Visits.{keys_at, visited}
+use Rattle.notes.specs.Visits.{joint_keys, visited}
 use Rattle.notes.specs.Laws.Noting.{note-first, note-again, noted-few, in-noted}
 use Rattle.serving.specs.Served.{served_keys}
 use Rattle.node_addition.specs.Added.{added_for}
@@ -214,8 +214,7 @@ module _ (arms : List ℕ) (rise : rising (map (λ a. a.name ∷ []) (map unpack
 
 -- the walk notes the key of each matching
 visits-keys : (arms log : List ℕ) (ms : List (List ℕ))
-    → foldl (visited (1 ∷ arms)) log ms ≡ note_all log (map (λ m. key_of (arms_at m (map unpack_arm arms))) ms)
-unfolding keys_at
+    → foldl (visited (joint_keys arms)) log ms ≡ note_all log (map (λ m. key_of (arms_at m (map unpack_arm arms))) ms)
 visits-keys arms log [] = refl
 visits-keys arms log (m ∷ ms) = rw (joint-key m arms) (visits-keys arms (note log (key_of (arms_at m (map unpack_arm arms)))) ms)
 
@@ -253,7 +252,7 @@ pub node-addition-noted : (s : Scheme) (p : Pattern) (nodes edges : List ℕ) (K
     → let d = instance_of nodes edges in
     let begun = note_all [] (served_keys K arms edges nodes) in
     Sound s d → SoundRule s (record { pattern = p; action = add_node K (map unpack_arm arms) })
-    → added_for K arms (drop (length begun) (foldl (visited (1 ∷ arms)) begun (matchings p d))) d
+    → added_for K arms (drop (length begun) (foldl (visited (joint_keys arms)) begun (matchings p d))) d
     ≡ node_addition K (map unpack_arm arms) (matchings p d) d
 unfolding node_addition suits
 node-addition-noted s p nodes edges K arms sound rule =

@@ -1,6 +1,6 @@
 -- The images of a pattern node, and of the pattern's own edges, as they are noted: all of them, since they are nodes and edges of the instance and
 -- there is room for as many.
-use Rattle.std.specs.Prelude.{ℕ, ◌+◌, ◌*◌, ◌%◌, ◌^◌, ◌<◌, ◌≡◌, refl, ◌↔◌, Bool, true}
+use Rattle.std.specs.Prelude.{ℕ, ◌%◌, ◌^◌, ◌<◌, ◌≡◌, refl, ◌↔◌, Bool, true}
 use Rattle.std.proofs.Common.{arith, ◌∙◌, sym, subst, inr, ⊎_elim}
 use Rattle.std.proofs.Math.Path.{ap}
 use mathlib.Core.List.Memᴰ
@@ -21,7 +21,7 @@ use Rattle.keys.specs.Laws.Keys.{keep-rises}
 use Rattle.graph.specs.Packed.{unpack_triple, pack_triple}
 use Rattle.graph.proofs.Laws.Triples.{packed-unpack}
 use Rattle.notes.specs.Notes.{most, note_all, sorted}
-use Rattle.notes.specs.Visits.{edge_key, joint_key, keys_at, visited}
+use Rattle.notes.specs.Visits.{edge_key, edge_keys, node_keys, visited}
 use Rattle.notes.specs.Laws.Noting.{sorted-as, sorted-member, same-member, in-noted, noted-few, visits-flat}
 
 -- keys among few enough are all noted
@@ -38,12 +38,8 @@ numbers-rise : (d : Instance) → nodes_rise d ≡ true → keys_rise (map (λ n
 unfolding keys_rise
 numbers-rise d h = rw map-map h
 
-node-key : (q : ℕ) → q < 2 ^ 16 → (m : List ℕ) → keys_at (1 ∷ q ∷ []) m ≡ m ! q ∷ []
-unfolding keys_at joint_key
-node-key q l m =
-    let e : q % 2 ^ 16 ≡ q = omega arith in
-    let r : 0 * 2 ^ 16 + m ! (q % 2 ^ 16) ≡ m ! q = rw e (omega arith) in
-    ap (λ k. k ∷ []) r
+node-keys : (q : ℕ) → q < 2 ^ 16 → (m : List ℕ) → node_keys q m ≡ m ! q ∷ []
+node-keys q l m = let e : q % 2 ^ 16 ≡ q = omega arith in rw e refl
 
 -- of triples that are kept as keys, a key tells which it is
 key-determines : (ts : List Triple) (keys : List ℕ) → ts ≡ map unpack_triple keys
@@ -77,10 +73,10 @@ module _ (s : Scheme) (p : Pattern) (d : Instance) where
         let f = image-node p d m.0 ((listed-pattern s p).0 listed) m.1 n.1 in
         (in_map (λ n. n.number) d.nodes).1 (f.0, f.1, m.2 ∙ ap (λ j. m.0 ! j) (sym n.2) ∙ sym f.2.0)
 
-    noted-images : foldl (visited (1 ∷ q ∷ [])) [] ms ≡ note_all [] (images_of q ms)
+    noted-images : foldl (visited (node_keys q)) [] ms ≡ note_all [] (images_of q ms)
     noted-images =
-        visits-flat (1 ∷ q ∷ []) [] ms
-        ∙ ap (note_all []) (each_same ms (keys_at (1 ∷ q ∷ [])) (λ m. m ! q ∷ []) (λ m i. node-key q place-low m) ∙ each-one (λ m. m ! q) ms)
+        visits-flat (node_keys q) [] ms
+        ∙ ap (note_all []) (each_same ms (node_keys q) (λ m. m ! q ∷ []) (λ m i. node-keys q place-low m) ∙ each-one (λ m. m ! q) ms)
 
     in-noted-images : (k : ℕ) → (k ∈ note_all [] (images_of q ms)) ↔ (k ∈ images_of q ms)
     in-noted-images =
@@ -88,14 +84,14 @@ module _ (s : Scheme) (p : Pattern) (d : Instance) where
         (omega (arith, length-map d.nodes (λ n. n.number), ((listed-instance s d).0 sound.listed).graph.few-nodes)) image-number
 
     -- a number is noted exactly if it is an image
-    pub image-noted : (k : ℕ) → member (sorted (foldl (visited (1 ∷ q ∷ [])) [] (matchings p d))) k ≡ member (images_of q (matchings p d)) k
+    pub image-noted : (k : ℕ) → member (sorted (foldl (visited (node_keys q)) [] (matchings p d))) k ≡ member (images_of q (matchings p d)) k
     image-noted k =
-        sorted-member (foldl (visited (1 ∷ q ∷ [])) [] ms) k
+        sorted-member (foldl (visited (node_keys q)) [] ms) k
         ∙ ap (λ l. member l k) noted-images
         ∙ same-member (note_all [] (images_of q ms)) (images_of q ms) k (in-noted-images k)
 
     pub images-noted :
-        sorted (foldl (visited (1 ∷ q ∷ [])) [] (matchings p d))
+        sorted (foldl (visited (node_keys q)) [] (matchings p d))
         ≡ keep (member (images_of q (matchings p d))) (map (λ n. n.number) d.nodes)
     images-noted =
         let image : ℕ → Bool = member (images_of q ms) in
@@ -107,7 +103,7 @@ module _ (s : Scheme) (p : Pattern) (d : Instance) where
           λ i. (in-noted-images k).1 ((in-numbers (images_of q ms) k).0 ((in-keep image numbers).0 i).1),
         ))
 
-    pub noted-below : Below (2 ^ 16) (sorted (foldl (visited (1 ∷ q ∷ [])) [] (matchings p d)))
+    pub noted-below : Below (2 ^ 16) (sorted (foldl (visited (node_keys q)) [] (matchings p d)))
     noted-below k i =
         let j = ((in-keep _ numbers).0 (subst (λ (l : List ℕ). k ∈ l) images-noted i)).0 in
         let n = (in_map (λ n. n.number) d.nodes).0 j in
@@ -117,7 +113,7 @@ module _ (s : Scheme) (p : Pattern) (d : Instance) where
   -- # The images of the pattern's own edges
   module _ (parts : List ℕ) (sound : Sound s d) (own : all (has p.edges) (map unpack_triple parts) ≡ true) where
     abbrev keys : List ℕ
-    keys = each ms (λ m. map (edge_key m) parts)
+    keys = each ms (edge_keys parts)
 
     lands : (m : List ℕ) → m ∈ ms → (t : ℕ) → t ∈ parts → image m (unpack_triple t) ∈ d.edges
     lands m i t j =
@@ -126,28 +122,27 @@ module _ (s : Scheme) (p : Pattern) (d : Instance) where
 
     key-of-edge : (k : ℕ) → k ∈ keys → k ∈ map pack_triple d.edges
     key-of-edge k i =
-        let m = (in-each ms (λ m. map (edge_key m) parts)).0 i in
+        let m = (in-each ms (edge_keys parts)).0 i in
         let t = (in_map (edge_key m.0) parts).0 m.2 in
         (in_map pack_triple d.edges).1 (image m.0 (unpack_triple t.0), lands m.0 m.1 t.0 t.1, t.2)
 
     edges-noted : (k : ℕ)
-        → member (sorted (foldl (visited (0 ∷ parts)) [] (matchings p d))) k ≡ member (each (matchings p d) (λ m. map (edge_key m) parts)) k
-    unfolding keys_at
+        → member (sorted (foldl (visited (edge_keys parts)) [] (matchings p d))) k ≡ member (each (matchings p d) (edge_keys parts)) k
     edges-noted k =
         let few : length (map pack_triple d.edges) < most =
         omega (arith, length-map d.edges pack_triple, ((listed-instance s d).0 sound.listed).graph.few-edges) in
-        sorted-member (foldl (visited (0 ∷ parts)) [] ms) k
-        ∙ ap (λ l. member l k) (visits-flat (0 ∷ parts) [] ms)
+        sorted-member (foldl (visited (edge_keys parts)) [] ms) k
+        ∙ ap (λ l. member l k) (visits-flat (edge_keys parts) [] ms)
         ∙ same-member (note_all [] keys) keys k (all_noted (map pack_triple d.edges) keys few key-of-edge k)
 
     -- an edge's key is noted exactly if the edge is an image
     pub edge-noted : (edges : List ℕ) → d.edges ≡ map unpack_triple edges → (e : Triple) → e ∈ d.edges
-        → member (sorted (foldl (visited (0 ∷ parts)) [] (matchings p d))) (pack_triple e) ≡ has (images (map unpack_triple parts) (matchings p d)) e
+        → member (sorted (foldl (visited (edge_keys parts)) [] (matchings p d))) (pack_triple e) ≡ has (images (map unpack_triple parts) (matchings p d)) e
     edge-noted edges stored e there =
         edges-noted (pack_triple e)
         ∙ same_truth (member keys (pack_triple e)) (has (images (map unpack_triple parts) ms) e) (
           (λ h.
-              let m = (in-each ms (λ m. map (edge_key m) parts)).0 ((in-numbers keys (pack_triple e)).0 h) in
+              let m = (in-each ms (edge_keys parts)).0 ((in-numbers keys (pack_triple e)).0 h) in
               let t = (in_map (edge_key m.0) parts).0 m.2 in
               (has-edge (images (map unpack_triple parts) ms) e).1
               ((in-images (map unpack_triple parts) ms e).1 (
@@ -163,7 +158,7 @@ module _ (s : Scheme) (p : Pattern) (d : Instance) where
               let m = (in-images (map unpack_triple parts) ms e).0 ((has-edge (images (map unpack_triple parts) ms) e).0 h) in
               let t = (in_map unpack_triple parts).0 m.2.1 in
               (in-numbers keys (pack_triple e)).1
-              ((in-each ms (λ m. map (edge_key m) parts)).1 (
+              ((in-each ms (edge_keys parts)).1 (
                 m.0,
                 m.1,
                 (in_map (edge_key m.0) parts).1 (

@@ -1,15 +1,19 @@
 -- Noting keys: keys that are noted are the keys that are joined to a rising list, until there is no room.
 -- A key is noted exactly if it is new, and then it is joined; a list that rises is no longer than one that has all its members.
-use Rattle.std.specs.Prelude.{ℕ, suc, ◌+◌, ◌<◌, ◌≤◌, ◌≡◌, refl, ◌↔◌, ◌⊎◌, Bool, true, false, cond, ◌&&◌, length, eqb, ltb}
-use Rattle.std.proofs.Common.{arith, ap, ◌∙◌, sym, inl, inr, ⊎_elim, length-append, ltb-true, ltb-false, lt-ltb, le-ltb, eqb-true}
+use Rattle.std.specs.Prelude.{ℕ, suc, ◌+◌, ◌<◌, ◌≤◌, ◌≡◌, refl, ◌↔◌, ◌⊎◌, Bool, true, false, cond, ◌&&◌, length, take, eqb, ltb}
+use Rattle.std.proofs.Common.{arith, add-one, take-suc, ap, ◌∙◌, sym, inl, inr, ⊎_elim, length-append, ltb-true, ltb-false, lt-ltb, le-ltb, eqb-true}
 use mathlib.Core.List.{List, [], ◌∷◌, ◌++◌, foldl, foldl-append, append_assoc, append-nil}
 use mathlib.Core.List.Memᴰ
-use Rattle.lists.specs.Lists.{◌∈◌, keep, each, member}
+use Rattle.lists.specs.Lists.{◌∈◌, keep, each, member, ◌!◌}
 use Rattle.lists.proofs.Laws.Lists.{in-cons, in-append, in-keep, in-numbers, same_truth, fails, keep-length}
 use Rattle.keys.specs.Keys.{keys_rise, join_key}
 use Rattle.keys.specs.Laws.Keys.{rise-cons, keys-determined, in-join, join-rises, join-there, keep-rises}
 use Rattle.notes.specs.Notes.{most, note, note_all, sorted}
-use Rattle.notes.specs.Visits.{keys_at, visited}
+use Rattle.notes.specs.Visits.{visited}
+
+-- a fold over one member more
+pub fold-next : {A : Type 0} (f : A → ℕ → A) (a : A) (xs : List ℕ) (i : ℕ) → i < length xs → foldl f a (take (i + 1) xs) ≡ f (foldl f a (take i xs)) (xs ! i)
+fold-next f a xs i l = rw add-one (ap (foldl f a) (take-suc xs i 0 l) ∙ foldl-append f a (take i xs) ((xs ! i) ∷ []))
 
 -- # Keys joined one after the other
 abbrev pub join_all : List ℕ → List ℕ → List ℕ
@@ -241,6 +245,6 @@ pub noted-rising : (ks : List ℕ) → keys_rise ks ≡ true → length ks ≤ m
 noted-rising ks h l = noted-after [] ks h (λ k i j. Memᴰ.not-nil j) (omega arith)
 
 -- # Keys that are noted at matchings
-pub visits-flat : (action log : List ℕ) (ms : List (List ℕ)) → foldl (visited action) log ms ≡ note_all log (each ms (keys_at action))
-visits-flat action log [] = refl
-visits-flat action log (m ∷ ms) = visits-flat action (visited action log m) ms ∙ sym (noted-append log (keys_at action m) (each ms (keys_at action)))
+pub visits-flat : (keys : List ℕ → List ℕ) (log : List ℕ) (ms : List (List ℕ)) → foldl (visited keys) log ms ≡ note_all log (each ms keys)
+visits-flat keys log [] = refl
+visits-flat keys log (m ∷ ms) = visits-flat keys (visited keys log m) ms ∙ sym (noted-append log (keys m) (each ms keys))

@@ -3,19 +3,19 @@
 use Prim.Native.Nat.{ℕ, suc, ◌+◌, ◌*◌, ◌-◌, ◌<◌, ◌≤◌}
 use native.Mathlib.Omega.{arith}
 use Rattle.std.proofs.Common.{add-one, ap, ◌∙◌, drop_of_length-le}
-use Rattle.std.specs.Prelude.{◌≡◌, Bool, true, false, cond, ◌&&◌, eqb, ltb, get_or, take, drop}
+use Rattle.std.specs.Prelude.{◌≡◌, Bool, true, false, cond, ◌&&◌, eqb, ltb, get_or, take, drop, Option, None, Some, unwrap_or, position}
+use Rattle.std.specs.List.{position_or_len}
+use Rattle.std.proofs.lemmas.List.Recursion.{is_position_or_len}
 use Rattle.std.proofs.Math.Path.{refl, sym}
 use Rattle.std.proofs.Math.Bool.{and-true, and-false}
 use mathlib.Core.List.{List, [], ◌∷◌}
 use Rattle.std.proofs.Math.ListN.{length}
 use Rattle.std.proofs.Math.Seq.{drop-cons}
-use borrow.Author.Tests.{eq-eqb, ne_eqb, lt-ltb, le-ltb, le-leb, lt-leb}
+use borrow.Author.Tests.{eq-eqb, ne_eqb, lt-ltb, le-ltb, ltb-false}
 use Rattle.lists.specs.Lists.{all}
 use Rattle.lists.specs.Text.{pieces, to_first}
 use Rattle.lists.specs.Decimal.{value_from, is_digit, is_numeral}
 use Rattle.numerals.specs.Scan.{up_to, numeral_below}
-use Rattle.numerals.specs.declared.scan.Numeral.{Numeral}
-use Rattle.numerals.specs.declared.scan.Numeral.TheVariants.{Is, Malformed}
 
 -- # Where a byte stands
 pub up_to-bound : (byte : ℕ) (s : List ℕ) → up_to byte s ≤ length s
@@ -27,31 +27,20 @@ up_to-bound byte (x ∷ xs) = go (eqb x byte) (up_to-bound byte xs)
     go true h = omega arith
     go false h = omega arith
 
--- the byte is not among the first i
-pub record Unmet (byte : ℕ) (s : List ℕ) (i : ℕ) : Type 0 where
-  pub within : i ≤ length s
-  pub left : up_to byte s ≡ i + up_to byte (drop i s)
+-- it is where the byte is found, or the length
+pub up_to-found : (byte : ℕ) (s : List ℕ) → unwrap_or (position (λ b. eqb b byte) s) (length s) ≡ up_to byte s
+unfolding up_to
+up_to-found byte s = go (ltb n (length s)) refl ∙ sym (at_place)
+  where
+    at_place : up_to byte s ≡ position_or_len (λ b. eqb b byte) s
+    at_place = is_position_or_len (up_to byte) (λ b. eqb b byte) refl (λ x xs. ap (cond (eqb x byte) 0) (omega arith)) s
 
-module _ {byte : ℕ} {s : List ℕ} where
-  pub unmet-first : Unmet byte s 0
-  unmet-first = record { within = omega arith; left = omega arith }
+    n : ℕ
+    n = position_or_len (λ b. eqb b byte) s
 
-  module _ {i : ℕ} (u : Unmet byte s i) where
-    pub up_to-here : i < length s → get_or s i 0 ≡ byte → i ≡ up_to byte s
-    unfolding up_to
-    up_to-here h e =
-        let here : up_to byte (drop i s) ≡ 0 = rw (drop-cons s i 0 h, eq-eqb (get_or s i 0) byte e) in
-        omega arith
-
-    pub unmet-next : i < length s → (get_or s i 0 ≡ byte → ⊥) → Unmet byte s (i + 1)
-    unfolding up_to
-    unmet-next h e =
-        let next : up_to byte (drop i s) ≡ suc (up_to byte (drop (i + 1) s)) = rw (add-one, drop-cons s i 0 h, ne_eqb (get_or s i 0) byte e) in
-        record { within = omega arith; left = omega arith }
-
-    pub up_to-nowhere : length s ≤ i → i ≡ up_to byte s
-    unfolding up_to
-    up_to-nowhere h = let none : up_to byte (drop i s) ≡ 0 = rw (drop_of_length-le s h) in omega arith
+    go : (t : Bool) → ltb n (length s) ≡ t → unwrap_or (cond t (Some n) None) (length s) ≡ n
+    go true e = refl
+    go false e = omega (arith, ltb-false n (length s) e, up_to-bound byte s, at_place)
 
 -- # The pieces of a text
 -- up to the first such byte the text is its first piece, and the other pieces are those of what follows
@@ -81,8 +70,8 @@ pieces_whole sep (x ∷ xs) h = go (eqb x sep) (pieces_whole sep xs) h
 
 -- # The numeral that a text is
 -- the numeral of which the digits of v are read, and bs are left
-unfoldable pub digits_below : (below v : ℕ) → List ℕ → Numeral
-digits_below below v bs = cond (all is_digit bs && ltb (value_from v bs) below) (Is (value_from v bs)) Malformed
+unfoldable pub digits_below : (below v : ℕ) → List ℕ → Option ℕ
+digits_below below v bs = cond (all is_digit bs && ltb (value_from v bs) below) (Some (value_from v bs)) None
 
 value_grows : (v : ℕ) (bs : List ℕ) → v ≤ value_from v bs
 value_grows v [] = omega arith
@@ -93,11 +82,11 @@ module _ (below v : ℕ) where
   unfolding digits_below
   digits_more b bs d = simp d
 
-  digits-other : (b : ℕ) (bs : List ℕ) → is_digit b ≡ false → digits_below below v (b ∷ bs) ≡ Malformed
+  digits-other : (b : ℕ) (bs : List ℕ) → is_digit b ≡ false → digits_below below v (b ∷ bs) ≡ None
   unfolding digits_below
   digits-other b bs d = simp d
 
-  digits-large : (bs : List ℕ) → below ≤ v → digits_below below v bs ≡ Malformed
+  digits-large : (bs : List ℕ) → below ≤ v → digits_below below v bs ≡ None
   unfolding digits_below
   digits-large bs h = simp (le-ltb (value_from v bs) below (omega (arith, value_grows v bs)), and-false)
 
@@ -116,12 +105,12 @@ pub record Reads (below : ℕ) (s : List ℕ) (v i : ℕ) : Type 0 where
   pub left : numeral_below below s ≡ digits_below below v (drop i s)
 
 module _ (below : ℕ) where
-  pub numeral-empty : (s : List ℕ) → length s ≡ 0 → Malformed ≡ numeral_below below s
+  pub numeral-empty : (s : List ℕ) → length s ≡ 0 → None ≡ numeral_below below s
   unfolding numeral_below
   numeral-empty [] h = refl
   numeral-empty (b ∷ bs) h = absurd (omega arith)
 
-  pub numeral-leading-zero : (s : List ℕ) → 1 < length s → get_or s 0 0 ≡ 48 → Malformed ≡ numeral_below below s
+  pub numeral-leading-zero : (s : List ℕ) → 1 < length s → get_or s 0 0 ≡ 48 → None ≡ numeral_below below s
   unfolding numeral_below
   numeral-leading-zero [] h z = absurd (omega arith)
   numeral-leading-zero (b ∷ []) h z = absurd (omega arith)
@@ -141,32 +130,22 @@ module _ (below : ℕ) where
 
 module _ {below : ℕ} {s : List ℕ} {v i : ℕ} (r : Reads below s v i) where
   module _ (h : i < length s) where
-    numeral-other : is_digit (get_or s i 0) ≡ false → Malformed ≡ numeral_below below s
+    pub numeral-other : is_digit (get_or s i 0) ≡ false → None ≡ numeral_below below s
     numeral-other d = sym (r.left ∙ rw (drop-cons s i 0 h, digits-other below v (get_or s i 0) (drop (suc i) s) d))
 
-    pub numeral-low : get_or s i 0 < 48 → Malformed ≡ numeral_below below s
-    numeral-low low = numeral-other (rw (lt-leb 48 (get_or s i 0) low))
-
-    pub numeral-high : 57 < get_or s i 0 → Malformed ≡ numeral_below below s
-    numeral-high high = numeral-other (rw (lt-leb (get_or s i 0) 57 high, and-false))
-
-    module _ (low : 48 ≤ get_or s i 0) (high : get_or s i 0 ≤ 57) where
+    module _ (digit : is_digit (get_or s i 0) ≡ true) where
       left_after : numeral_below below s ≡ digits_below below (v * 10 + (get_or s i 0 - 48)) (drop (i + 1) s)
       left_after =
           r.left
-          ∙ rw (
-            add-one,
-            drop-cons s i 0 h,
-            digits_more below v (get_or s i 0) (drop (suc i) s) (rw (le-leb 48 (get_or s i 0) low, le-leb (get_or s i 0) 57 high)),
-          )
+          ∙ rw (add-one, drop-cons s i 0 h, digits_more below v (get_or s i 0) (drop (suc i) s) digit)
 
       pub reads_more : v * 10 + (get_or s i 0 - 48) < below → Reads below s (v * 10 + (get_or s i 0 - 48)) (i + 1)
       reads_more l = record { within = omega arith; nonempty = r.nonempty; most = omega arith; less = λ m. l; left = left_after }
 
-      pub numeral-large : below ≤ v * 10 + (get_or s i 0 - 48) → Malformed ≡ numeral_below below s
+      pub numeral-large : below ≤ v * 10 + (get_or s i 0 - 48) → None ≡ numeral_below below s
       numeral-large l = sym (left_after ∙ digits-large below (v * 10 + (get_or s i 0 - 48)) (drop (i + 1) s) l)
 
-  pub numeral-read : length s ≤ i → Is v ≡ numeral_below below s
+  pub numeral-read : length s ≤ i → Some v ≡ numeral_below below s
   unfolding digits_below
   numeral-read h =
       let l : v < below = r.less (omega arith) in

@@ -14,6 +14,7 @@ use Rattle.keys.specs.Keys.{keys_rise}
 use Rattle.graph.specs.Packed.{unpack_instance, unpack_pattern, unpack_action, unpack_arm, instance_of, StoredInstance, StoredRule}
 use Rattle.graph.proofs.Laws.Keys.{rising-triples}
 use Rattle.graph.specs.declared.instance.PackedInstance.{PackedInstance}
+use Rattle.graph.specs.declared.rule.Operation.TheVariants.{NodeAddition}
 use Rattle.graph.specs.declared.rule.PackedAction.{PackedAction}
 use Rattle.graph.specs.declared.rule.PackedRule.{PackedRule}
 use Rattle.places.specs.Laws.Nodes.{nodes-rise, nodes-below}
@@ -44,10 +45,10 @@ module _ {s : Scheme} {d : PackedInstance} {r : PackedRule} (h : StoredInstance 
   pub edges-rise : keys_rise (edges_of d) ≡ true
   edges-rise = sym (rising-triples (edges_of d)) ∙ ((listed-instance s _).0 sound-keys.listed).graph.edges-rise
 
-  module _ (code : action.code ≡ 1) where
+  module _ (adds : action.operation ≡ NodeAddition) where
     adds-node : unpack_action action ≡ add_node action.head (map unpack_arm (parts_of action))
     unfolding unpack_action
-    adds-node = rw code refl
+    adds-node = rw adds refl
 
     suited : suits s (unpack_pattern r.pattern) (add_node action.head (map unpack_arm (parts_of action))) ≡ true
     suited = (rule-of k _ adds-node).suited

@@ -1,6 +1,6 @@
 -- What is reported is what document 01 counts: an operation only adds or only removes, so the numbers of nodes and edges tell how many. Assumes
 -- nothing.
-use Rattle.std.specs.Prelude.{ℕ, ◌+◌, ◌-◌, ◌≤◌, ◌≡◌, refl, ◌⊎◌, List, length}
+use Rattle.std.specs.Prelude.{ℕ, ◌+◌, ◌-◌, ◌≤◌, ◌≡◌, refl, ◌⊎◌, List, length, Result, Ok, Err, IfOk}
 use Rattle.std.proofs.Common.{arith, sym, ◌∙◌, ⊎_elim}
 use Rattle.std.proofs.Math.Path.{ap, ap₂}
 use Rattle.std.proofs.Math.Logic.{inl, inr}
@@ -24,11 +24,9 @@ use Rattle.graph.specs.declared.instance.PackedInstance.{PackedInstance}
 use Rattle.graph.specs.declared.rule.PackedRule.{PackedRule}
 use Rattle.graph.specs.declared.scheme.PackedScheme.{PackedScheme}
 use Rattle.matcher.specs.Matchers.{nodes_of, edges_of}
-use Rattle.growth.specs.Growth.{judged}
-use Rattle.growth.specs.declared.Verdict.{Verdict}
-use Rattle.growth.specs.declared.Verdict.TheVariants.{Done, Refused}
+use Rattle.growth.specs.Growth.{Makes}
 use Rattle.operations.specs.Applies.{Applies}
-use Rattle.reports.specs.Reported.{counts_of, report_for, Roomy}
+use Rattle.reports.specs.Reported.{counts_of, report_of, Roomy}
 use Rattle.operations.specs.Laws.Asked.{rule-of}
 
 -- # One way only
@@ -108,16 +106,17 @@ module _ (s : PackedScheme) (d : PackedInstance) (r : PackedRule) (h : StoredIns
           (difference-made (new.order - d.order) (new.size - d.size) reported-counts.added nodes.0 edges.0)
           (difference-made (d.order - new.order) (d.size - new.size) reported-counts.removed nodes.1 edges.1)
 
-      done-applies : Applies s d r (report_for Done d m new)
+      done-applies : Applies s d r (report_of d m (Ok new))
       done-applies = record {
         answer = rw o (ap (λ (c : Counts). accepted (counted c)) counts-are);
-        instance = rw o refl;
-        stored = record { few_nodes = fits.few_nodes; few_edges = fits.few_edges; sound = new-sound };
+        instance = sym o;
+        stored = λ n e. let same : n.instance ≡ new = cc in rw same (record { few_nodes = fits.few_nodes; few_edges = fits.few_edges; sound = new-sound });
       }
 
-    refused-applies : (x : Refusal) → outcome ≡ refused x → Applies s d r (report_for (Refused x) d m new)
-    refused-applies x o = record { answer = rw o refl; instance = rw o refl; stored = h }
+  refused-applies : (m : ℕ) (x : Refusal) → outcome ≡ refused x → Applies s d r (report_of d m (Err x))
+  refused-applies m x o = record { answer = rw o refl; instance = sym o; stored = λ n e. let z : ◌≡◌ {A = ℕ} 0 1 = cc in absurd (omega arith) }
 
-    pub report-applies : (v : Verdict) → Fits new → judged v (unpack_instance new) ≡ outcome → Applies s d r (report_for v d m new)
-    report-applies Done f o = done-applies f (sym o)
-    report-applies (Refused x) f o = refused-applies x (sym o)
+  pub report-applies : (room : Roomy d) (m : ℕ) → m ≡ length (matchings (unpack_rule r).pattern (unpack_instance d))
+      → (changed : Result PackedInstance Refusal) → IfOk changed Roomy → Makes outcome changed → Applies s d r (report_of d m changed)
+  report-applies room m all (Ok new) new_room makes = done-applies room m all new new_room makes.fits (sym makes.makes)
+  report-applies room m all (Err x) new_room makes = refused-applies m x (sym makes.makes)

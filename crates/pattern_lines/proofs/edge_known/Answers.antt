@@ -1,19 +1,16 @@
--- `pattern_lines::edge_known` meets its contract: its tests are the definition's, in their order. Assumes nothing.
-use mathlib.Core.Path.{sym}
+-- `pattern_lines::edge_known` meets its contract: a pattern node stands if its number is below their count. Assumes nothing.
+use Rattle.std.specs.Prelude.{◌/◌, ◌%◌, ◌^◌, []}
 use borrow.Author.Rules.{rules}
-use Rattle.verdicts.proofs.Laws.Tests.{Tests}
 use Rattle.pattern_lines.specs.PatternLines.{knows}
-use Rattle.pattern_lines.specs.Laws.PatternChecks.{place-stands, stands-below, stands-past}
+use Rattle.pattern_lines.specs.Laws.PatternChecks.{place_stands}
 use Rattle.pattern_lines.proofs.edge_known.Goals as goal
 
-pub returns-then-nodes-edge : goal.returns-then-nodes-edge
+pub returns-then-declares : goal.returns-then-declares
 unfolding knows
-returns-then-nodes-edge c = sym (search (Tests, stands-past, rules))
+returns-then-declares c =
+    rw (← place_stands c.args.nodes.now [] (c.args.edge / 2 ^ 22), ← place_stands c.args.nodes.now [] (c.args.edge % 2 ^ 16)) (search rules)
 
-pub returns-then-not-declares : goal.returns-then-not-declares
+pub returns-else-declares : goal.returns-else-declares
 unfolding knows
-returns-then-not-declares c = sym (search (Tests, stands-below, rules))
-
-pub returns : goal.returns
-unfolding knows
-returns c = search (Tests, stands-below, place-stands, rules)
+returns-else-declares c =
+    rw (← place_stands c.args.nodes.now [] (c.args.edge / 2 ^ 22), ← place_stands c.args.nodes.now [] (c.args.edge % 2 ^ 16)) (search rules)

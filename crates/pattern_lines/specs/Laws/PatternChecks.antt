@@ -1,10 +1,9 @@
 -- What a line of a pattern is tested for, as code tests it: a pattern node stands if its number is below their count, and shares class and value
 -- with another exactly if the low bits of their keys are the same.
-use Rattle.std.specs.Prelude.{ℕ, suc, ◌+◌, ◌*◌, ◌/◌, ◌%◌, ◌^◌, ◌<◌, ◌≤◌, ◌≡◌, refl, Bool, true, false, cond, ◌&&◌, ◌||◌, length, eqb, ltb}
+use Rattle.std.specs.Prelude.{ℕ, suc, ◌+◌, ◌*◌, ◌/◌, ◌%◌, ◌^◌, ◌<◌, ◌≤◌, ◌≡◌, refl, Bool, true, false, cond, ◌&&◌, ◌||◌, length, eqb, ltb, None, Some}
 use native.Mathlib.Omega.{arith}
-use Rattle.std.proofs.Common.{ap, ap₂, sym, ◌∙◌, lt-ltb, le-ltb, eqb-true, eq-eqb, ne_eqb}
+use Rattle.std.proofs.Common.{ap, ap₂, sym, ◌∙◌, lt-ltb, le-ltb, ltb-true, eqb-true, eq-eqb, ne_eqb}
 use Rattle.std.proofs.Math.Bool.{not, and-false}
-use Rattle.std.proofs.Math.Option.{none, some}
 use mathlib.Core.List.{List, [], ◌∷◌, map}
 use Rattle.std.proofs.lemmas.Bool.{eqb-false}
 use Rattle.lists.specs.Lists.{any, member}
@@ -19,14 +18,18 @@ use Rattle.pattern_lines.specs.Laws.Patterns.{stands-place, class_at, joins-plac
 
 -- # Pattern nodes that stand
 module _ (nodes edges : List ℕ) (i : ℕ) where
-  pub place-stands : ltb i (length nodes) ≡ stands (pattern_of nodes edges) i
-  place-stands = sym (stands-place nodes edges i)
+  pub place_stands : ltb i (length nodes) ≡ stands (pattern_of nodes edges) i
+  place_stands = sym (stands-place nodes edges i)
 
   pub stands-below : i < length nodes → stands (pattern_of nodes edges) i ≡ true
   stands-below h = stands-place nodes edges i ∙ lt-ltb i (length nodes) h
 
   pub stands-past : length nodes ≤ i → stands (pattern_of nodes edges) i ≡ false
   stands-past h = stands-place nodes edges i ∙ le-ltb i (length nodes) h
+
+  -- the first of four tests that all pass
+  pub stands-first : (a b c : Bool) {r : Bool} → r ≡ (stands (pattern_of nodes edges) i && a && b && c) → not r ≡ false → i < length nodes
+  stands-first a b c made known = let all = passed made known in ltb-true i (length nodes) (place_stands ∙ (simp both at all).0.0.0)
 
 -- # A pattern node's value
 low_bits : (k : ℕ) → k % 2 ^ 39 ≡ k / 2 ^ 33 % 2 ^ 6 * 2 ^ 33 + k / 2 ^ 32 % 2 * 2 ^ 32 + k % 2 ^ 32
@@ -35,14 +38,14 @@ low_bits k = omega arith
 -- a value is given in the key
 module _ (key : ℕ) (given : key / 2 ^ 32 % 2 ≡ 1) where
   shares-key : (k : ℕ)
-      → (eqb (k / 2 ^ 33 % 2 ^ 6) (key / 2 ^ 33 % 2 ^ 6) && both_given (unpack_pattern_node 0 k).value (some (key % 2 ^ 32))) ≡ eqb (k % 2 ^ 39) (key % 2 ^ 39)
+      → (eqb (k / 2 ^ 33 % 2 ^ 6) (key / 2 ^ 33 % 2 ^ 6) && both_given (unpack_pattern_node 0 k).value (Some (key % 2 ^ 32))) ≡ eqb (k % 2 ^ 39) (key % 2 ^ 39)
   shares-key k = go (eqb (k / 2 ^ 32 % 2) 1) refl
     where
       class : Bool
       class = eqb (k / 2 ^ 33 % 2 ^ 6) (key / 2 ^ 33 % 2 ^ 6)
 
       go : (t : Bool) → eqb (k / 2 ^ 32 % 2) 1 ≡ t
-          → (class && both_given (cond t (some (k % 2 ^ 32)) none) (some (key % 2 ^ 32))) ≡ eqb (k % 2 ^ 39) (key % 2 ^ 39)
+          → (class && both_given (cond t (Some (k % 2 ^ 32)) None) (Some (key % 2 ^ 32))) ≡ eqb (k % 2 ^ 39) (key % 2 ^ 39)
       go true e =
           let also : k / 2 ^ 32 % 2 ≡ 1 = eqb-true (k / 2 ^ 32 % 2) 1 e in
           same_truth (class && eqb (k % 2 ^ 32) (key % 2 ^ 32)) (eqb (k % 2 ^ 39) (key % 2 ^ 39)) (
@@ -54,7 +57,7 @@ module _ (key : ℕ) (given : key / 2 ^ 32 % 2 ≡ 1) where
           and-false class ∙ sym (ne_eqb (k % 2 ^ 39) (key % 2 ^ 39) (λ h. other (omega arith)))
 
   shares-keys : (i : ℕ) (ks : List ℕ)
-      → any (λ m. eqb m.class (key / 2 ^ 33 % 2 ^ 6) && both_given m.value (some (key % 2 ^ 32))) (unpack_pattern_nodes i ks)
+      → any (λ m. eqb m.class (key / 2 ^ 33 % 2 ^ 6) && both_given m.value (Some (key % 2 ^ 32))) (unpack_pattern_nodes i ks)
       ≡ any (λ k. eqb (k % 2 ^ 39) (key % 2 ^ 39)) ks
   shares-keys i [] = refl
   shares-keys i (k ∷ ks) = ap₂ ◌||◌ (shares-key k) (shares-keys (suc i) ks)
@@ -106,3 +109,6 @@ module _ (s : Scheme) (nodes edges : List ℕ) where
 
 pub has-made : (ks : List ℕ) (k : ℕ) {r : Bool} → r ≡ member ks k → r ≡ has (map unpack_triple ks) (unpack_triple k)
 has-made ks k made = made ∙ sym (has-triple ks k)
+
+-- what a line of a pattern, and one of an action, is tested for
+pub ruleset PatternTests = (stands-below, stands-past, stands-first, source-below, target_below, value-left-out, value-given, joins-made, permits-made, conforms-made, has-made)

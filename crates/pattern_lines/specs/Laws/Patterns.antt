@@ -1,8 +1,7 @@
 -- Pattern nodes are numbered by their places: which numbers stand, of which classes, and what a pattern is with one node or one edge more.
 -- By induction on the nodes, which are numbered from any number on.
-use Rattle.std.specs.Prelude.{ℕ, zero, suc, ◌+◌, ◌/◌, ◌%◌, ◌^◌, ◌<◌, ◌≡◌, refl, true, List, [], ◌∷◌, ◌++◌, map, length, get_or, eqb, ltb}
+use Rattle.std.specs.Prelude.{ℕ, zero, suc, ◌+◌, ◌/◌, ◌%◌, ◌^◌, ◌<◌, ◌≡◌, refl, true, List, [], ◌∷◌, ◌++◌, map, length, get_or, eqb, ltb, Option}
 use Rattle.std.proofs.Common.{arith, zero-add, ap, ◌∙◌, sym, ⊎_elim, lt-ltb, ltb-true}
-use Rattle.std.proofs.Math.Option.{Option}
 use mathlib.Core.List.Memᴰ
 use Rattle.std.proofs.lemmas.List.{map-append}
 use Rattle.std.proofs.lemmas.Simd.{map-map}

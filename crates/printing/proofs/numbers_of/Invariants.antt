@@ -2,8 +2,5 @@
 use Rattle.printing.specs.Laws.Numbers.{Divided}
 use Rattle.printing.proofs.numbers_of.Given as goal
 
-abbrev pub invariant-loop-i : goal.invariant-loop-i
-invariant-loop-i l = Divided l.kind l.row l.form l.numbers l.rest l.i
-
-abbrev pub decreases-loop-i : goal.decreases-loop-i
-decreases-loop-i l = l.i
+abbrev pub invariant-loop-place : goal.invariant-loop-place
+invariant-loop-place l = Divided l.fn.kind l.fn.row l.form l.numbers l.rest l.place

@@ -1,6 +1,5 @@
 -- `printing::write_line` meets its contract: the key, a byte =, and the numbers are written, each where the last ended. Assumes nothing.
-use native.Mathlib.Omega.{arith}
-use Rattle.printing.specs.Laws.Written.{key_fits, equals-fits, numbers-start, numbers_fit, line-written, line-as-long}
+use Rattle.printing.specs.Laws.Written.{key_fits, equals-fits, numbers-start, numbers_fit, line-written}
 use borrow.Author.Rules.{rules}
 use Rattle.printing.proofs.write_line.Goals as goal
 
@@ -21,11 +20,3 @@ write_numbers-requires c = search (numbers_fit, rules)
 
 pub returns : goal.returns
 returns c = search (line-written, rules)
-
-pub overflow_add-result : goal.overflow_add-result
-overflow_add-result c =
-    let whole = line-written _ _ _ c.requires.in_bounds c.requires.numbers_in_bounds c.write_key-at.ensures c.write_numbers.ensures in
-    omega (arith, whole.count)
-
-pub shape_of-buf : goal.shape_of-buf
-shape_of-buf c = search (line-as-long, rules)

@@ -15,10 +15,11 @@ use Rattle.lists.proofs.Laws.Radix.{unrank-length}
 use Rattle.lists.proofs.Laws.Buffers.{Unwritten, unwritten-all, part-fits, byte_fits, unwritten-part, unwritten-byte, unwritten-front, unwritten-none}
 use Rattle.lists.proofs.Laws.Buffers.{last_written, writes-as-long}
 use Rattle.model.specs.Files.{commas}
-use Rattle.forms.specs.Forms.{kind_count, kind_at, most_numbers, padded, packed_form}
+use Rattle.forms.specs.Forms.{kind_of, most_numbers, padded, packed_form}
 use Rattle.printing.specs.Written.{most_of_numbers, ender, numbers_text, line_of, row_text}
 use Rattle.forms.specs.Laws.Kinds.{kind-roomy, kind-spelled, kind-written, filled, padded-front, form-numbers, form-few}
 use Rattle.forms.specs.declared.Form.{Form as PackedForm}
+use Rattle.forms.specs.declared.LineKind.{LineKind}
 
 -- # A line's numbers
 pub ender-last : (left : ℕ) → left ≡ 0 → 10 ≡ ender left
@@ -126,19 +127,6 @@ module _ {numbers before : List ℕ} {at i : ℕ} {now : List ℕ} (p : Printing
   pub printing-all : length numbers ≤ i → Writes whole before at now
   printing-all h = unwritten-none (subst (λ t. Unwritten whole before t at now) (number-none numbers i h) p.left)
 
--- # A key, byte by byte
-module _ {key before : List ℕ} {i : ℕ} {now : List ℕ} (u : Unwritten key before (drop i key) i now) where
-  pub byte_inside : i < length key → i < length now
-  byte_inside h = omega (arith, u.fits, u.as_long)
-
-  pub key-next : i < length key → Unwritten key before (drop (i + 1) key) (i + 1) (set now i (get_or key i 0))
-  key-next h =
-      let here = subst (λ t. Unwritten key before t i now) (drop-cons key i 0 h) u in
-      subst (λ n. Unwritten key before (drop n key) (i + 1) (set now i (get_or key i 0))) (sym (add-one i)) (unwritten-byte here)
-
-  pub key-all : length key ≤ i → Writes key before i now
-  key-all h = unwritten-none (subst (λ t. Unwritten key before t i now) (drop_of_length-le key {i = i} h) u)
-
 -- # A line
 numbers-text : (n : ℕ) (ns : List ℕ) → numbers_text (n ∷ ns) ≡ commas (n ∷ ns) ++ (10 ∷ [])
 unfolding numbers_text
@@ -194,30 +182,30 @@ module _ (key ns before : List ℕ) (some : 1 ≤ length ns) (fits : length (lin
       line-as-long = writes-as-long (line_of key ns) before fits line-written
 
 -- # The line of a row
-module _ (kind row : ℕ) (h : kind < kind_count) {form : PackedForm} (made : form ≡ packed_form (kind_at kind)) {numbers : List ℕ}
-    (got : numbers ≡ padded (unrank (kind_at kind).rooms row)) where
+module _ (kind : LineKind) (row : ℕ) {form : PackedForm} (made : form ≡ packed_form (kind_of kind)) {numbers : List ℕ}
+    (got : numbers ≡ padded (unrank (kind_of kind).rooms row)) where
   abbrev row_key : List ℕ
-  row_key = (kind_at kind).form.key
+  row_key = (kind_of kind).form.key
 
   abbrev us : List ℕ
-  us = unrank (kind_at kind).rooms row
+  us = unrank (kind_of kind).rooms row
 
   -- the array's numbers are the row's
   row-numbers : take form.numbers numbers ≡ us
   row-numbers =
-      let k = kind-roomy kind h in
-      let as_many : form.numbers ≡ length us = form-numbers kind h made ∙ sym (unrank-length (kind_at kind).rooms row) in
-      rw (got, as_many) (padded-front us (omega (arith, unrank-length (kind_at kind).rooms row, k.as_many, k.few)))
+      let k = kind-roomy kind in
+      let as_many : form.numbers ≡ length us = form-numbers kind made ∙ sym (unrank-length (kind_of kind).rooms row) in
+      rw (got, as_many) (padded-front us (omega (arith, unrank-length (kind_of kind).rooms row, k.as_many, k.few)))
 
   row-some : 1 ≤ length us
-  row-some = let k = kind-roomy kind h in omega (arith, unrank-length (kind_at kind).rooms row, k.as_many, k.some_number)
+  row-some = let k = kind-roomy kind in omega (arith, unrank-length (kind_of kind).rooms row, k.as_many, k.some_number)
 
   letters : form.letters ≡ length row_key
   unfolding packed_form
   letters = ap (λ f. f.letters) made
 
   pub letters-few : form.letters ≤ 5
-  letters-few = omega (arith, letters, (kind-spelled kind h).1)
+  letters-few = omega (arith, letters, (kind-spelled kind).1)
 
   module _ (space : List ℕ) (room : length space ≡ 5) where
     pub key-inside : form.letters ≤ length space
@@ -231,16 +219,16 @@ module _ (kind row : ℕ) (h : kind < kind_count) {form : PackedForm} (made : fo
 
   pub numbers-inside : form.numbers ≤ length numbers
   numbers-inside =
-      let k = kind-roomy kind h in
-      let as_many = unrank-length (kind_at kind).rooms row in
+      let k = kind-roomy kind in
+      let as_many = unrank-length (kind_of kind).rooms row in
       let all = ap length (got ∙ sym (filled us (omega (arith, as_many, k.as_many, k.few)))) in
-      omega (arith, form-numbers kind h made, as_many, all, length-append us (drop (length us) (0 ∷ 0 ∷ 0 ∷ 0 ∷ [])))
+      omega (arith, form-numbers kind made, as_many, all, length-append us (drop (length us) (0 ∷ 0 ∷ 0 ∷ 0 ∷ [])))
 
   pub numbers-part : form.numbers ≡ length (take form.numbers numbers)
-  numbers-part = form-numbers kind h made ∙ sym (ap length row-numbers ∙ unrank-length (kind_at kind).rooms row)
+  numbers-part = form-numbers kind made ∙ sym (ap length row-numbers ∙ unrank-length (kind_of kind).rooms row)
 
   pub numbers-few : length (take form.numbers numbers) ≤ most_numbers
-  numbers-few = omega (arith, numbers-part, form-few kind h made)
+  numbers-few = omega (arith, numbers-part, form-few kind made)
 
   pub row-counted : {r : ℕ} → (r ≡ length (numbers_text (take form.numbers numbers))) × (r ≤ most_of_numbers)
       → form.letters + 1 + r ≡ length (row_text kind row)
@@ -254,7 +242,7 @@ module _ (kind row : ℕ) (h : kind < kind_count) {form : PackedForm} (made : fo
   module _ {space : List ℕ} {taken : ℕ} {spelled : List ℕ} (w : Writes (lowest 256 0 form.letters form.key) space taken spelled) where
     key-digits : lowest 256 0 form.letters form.key ≡ row_key
     unfolding packed_form
-    key-digits = ap (λ f. lowest 256 0 f.letters f.key) made ∙ kind-written kind h
+    key-digits = ap (λ f. lowest 256 0 f.letters f.key) made ∙ kind-written kind
 
     spelled-key : take form.letters spelled ≡ row_key
     spelled-key = rw (w.buffer, key-digits, letters) (take-append_seam row_key (drop (length row_key) space))

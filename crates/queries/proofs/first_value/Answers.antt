@@ -1,17 +1,10 @@
--- `queries::first_value` meets its contract, outcome by outcome. Assumes nothing.
+-- `queries::first_value` meets its contract: the rule text is refused, or the matcher answers. Assumes nothing.
 use borrow.Author.Rules.{rules}
-use borrow.Author.Tests.{not-true, not-false}
-use Rattle.queries.specs.Laws.Listing.{accepted-stored, first-while-shut, first-given, first-refused}
+use Rattle.queries.specs.Laws.Listing.{first-refused, first-given}
 use Rattle.queries.proofs.first_value.Goals as goal
 
-pub returns-then-not-session : goal.returns-then-not-session
-returns-then-not-session c = search (first-while-shut, not-true, rules)
+pub returns-in_err-read_pattern : goal.returns-in_err-read_pattern
+returns-in_err-read_pattern c = search (first-refused, rules)
 
-pub first-requires : goal.first-requires
-first-requires c = search (accepted-stored, rules)
-
-pub returns-in-Accepted : goal.returns-in-Accepted
-returns-in-Accepted c = search (first-given, not-false, rules)
-
-pub returns-in-Refused : goal.returns-in-Refused
-returns-in-Refused c = search (first-refused, not-false, rules)
+pub returns : goal.returns
+returns c = search (first-given, rules)

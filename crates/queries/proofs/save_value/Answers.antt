@@ -1,11 +1,10 @@
--- `queries::save_value` meets its contract, outcome by outcome. Assumes nothing.
+-- `queries::save_value` meets its contract: saved in an open session, refused in one that is shut. Assumes nothing.
 use borrow.Author.Rules.{rules}
-use borrow.Author.Tests.{not-true, not-false}
 use Rattle.queries.specs.Laws.Saving.{save-while-shut, saved-or-refused}
 use Rattle.queries.proofs.save_value.Goals as goal
 
-pub returns-then-not-session : goal.returns-then-not-session
-returns-then-not-session c = search (save-while-shut, not-true, rules)
+pub returns-then-session : goal.returns-then-session
+returns-then-session c = search (saved-or-refused, rules)
 
-pub returns : goal.returns
-returns c = search (saved-or-refused, not-false, rules)
+pub returns-else-session : goal.returns-else-session
+returns-else-session c = search (save-while-shut, rules)

@@ -1,10 +1,10 @@
 -- What save leaves, while shut and while open: the writer leaves what the record leaves.
-use Rattle.std.specs.Prelude.{ℕ, ◌≡◌, refl, true, false, List}
+use Rattle.std.specs.Prelude.{ℕ, ◌≡◌, refl, true, false, List, Result}
 use Rattle.model.specs.Refusals.{refused}
 use Rattle.model.specs.Record.{Save, accept}
 use Rattle.model.specs.Answers.{save_answer}
 use Rattle.model.specs.declared.Refusal.TheVariants.{NotOpen}
-use Rattle.model.specs.declared.SaveAnswer.{SaveAnswer}
+use Rattle.model.specs.declared.Refusal.{Refusal}
 use Rattle.graph.specs.Packed.{unpack_scheme, unpack_instance, unpack_history}
 use Rattle.writing.specs.Writers.{Saves}
 use Rattle.session.specs.declared.Session.{Session}
@@ -17,6 +17,6 @@ module _ {s : Session} {buffer : List ℕ} (stored : StoredSession s) where
   save-while-shut h = refused-steps stored (rw (shut-is s h) refl)
 
   -- the buffer is long enough, or too short
-  pub saved-or-refused : {r : SaveAnswer} {after : List ℕ} → s.opened ≡ true
+  pub saved-or-refused : {r : Result ℕ Refusal} {after : List ℕ} → s.opened ≡ true
       → Saves (unpack_scheme s.scheme) (unpack_instance s.instance) buffer r after → Stepped (Save buffer) s (save_answer r) after s
   saved-or-refused h saves = as_step (rw (← open_is s h) at (saves.leaves (unpack_history s.history))) (λ x _. refl) stored

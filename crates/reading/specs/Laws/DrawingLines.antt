@@ -5,10 +5,10 @@ use Rattle.std.proofs.Common.{arith, ◌∙◌, eqb-true, eq-eqb}
 use Rattle.std.specs.Prelude.{◌≡◌, Bool, true, false, cond, ◌||◌, length, take}
 use Rattle.std.proofs.Math.Path.{refl, ap, ap₂, sym}
 use Rattle.std.proofs.Math.Bool.{not, ◌&&◌, and-true}
-use mathlib.Core.List.{List, [], ◌∷◌, ◌++◌, map, map-append, map-map, append-nil, get_last?}
+use mathlib.Core.List.{List, [], ◌∷◌, ◌++◌, map, map-append, map-map, append-nil}
 use Rattle.std.proofs.lemmas.List.{length-map}
 use Rattle.std.proofs.Math.Dec.{eqb}
-use Rattle.lists.specs.Lists.{any}
+use Rattle.lists.specs.Lists.{any, last_of}
 use Rattle.lists.specs.Order.{rising}
 use Rattle.lists.specs.Radix.{unrank}
 use Rattle.model.specs.Graph.{Scheme, Instance, is_object, is_value, is_functional, row, stands, permits, declares, conforms}
@@ -101,7 +101,7 @@ module _ (above : DrawingLines) (passing : Passing drawing_format above) where
   conforms-above : conforms s d ≡ true
   conforms-above = (passing-sound above passing).conforming
 
-  module _ (r : ℕ) (in-form : LineInForm drawing_format (row_line node= r)) (in-turn : follows drawing_form (get_last? above) (row_line node= r) ≡ true) where
+  module _ (r : ℕ) (in-form : LineInForm drawing_format (row_line node= r)) (in-turn : follows drawing_form (last_of above) (row_line node= r) ≡ true) where
     no-edge-yet : d.edges ≡ []
     unfolding drawing_format
     no-edge-yet = ap (map triple_of) (none-later drawing_format drawing-regular above (row_line node= r) passing in-form in-turn edge= (omega arith))
@@ -118,7 +118,7 @@ module _ (above : DrawingLines) (passing : Passing drawing_format above) where
         let e = no-edge-yet in
         rw e (node-conforms eqb s (λ v w t. eq-eqb w v (sym (eqb-true v w t))) d.nodes (unpack_node r) (rw e at conforms-above) nodes-rise-with)
 
-  module _ (r : ℕ) (in-form : LineInForm drawing_format (row_line edge= r)) (in-turn : follows drawing_form (get_last? above) (row_line edge= r) ≡ true) where
+  module _ (r : ℕ) (in-form : LineInForm drawing_format (row_line edge= r)) (in-turn : follows drawing_form (last_of above) (row_line edge= r) ≡ true) where
     edges-rise-with : rising (map row (d.edges ++ (unpack_triple r ∷ []))) ≡ true
     unfolding drawing_format
     edges-rise-with =
@@ -142,7 +142,7 @@ module _ (above : DrawingLines) (passing : Passing drawing_format above) where
       go false e = rw (e, value-class s classes c h e)
 
   -- the checks of a line in turn come to those of the definition
-  checks-agree : (k : DrawingKey) (r : ℕ) → LineInForm drawing_format (row_line k r) → follows drawing_form (get_last? above) (row_line k r) ≡ true
+  checks-agree : (k : DrawingKey) (r : ℕ) → LineInForm drawing_format (row_line k r) → follows drawing_form (last_of above) (row_line k r) ≡ true
       → Agree (line_checks s d k r) (drawing_checks above k (row_line k r).numbers)
   unfolding line_checks drawing_checks may_checks node_checks edge_checks scheme_with instance_with
   checks-agree class= r f t = agree_same refl
@@ -176,12 +176,12 @@ module _ (above : DrawingLines) (passing : Passing drawing_format above) where
 
   -- the verdict on a line, told from what the lines above it hold, is that of the definition
   pub line-verdict : (k : DrawingKey) (r : ℕ) → LineInForm drawing_format (row_line k r)
-      → verdict (suc (length above)) (follows drawing_form (get_last? above) (row_line k r)) (full (drawing_form k).most (lines_above s d k)) (line_checks s d k r)
+      → verdict (suc (length above)) (follows drawing_form (last_of above) (row_line k r)) (full (drawing_form k).most (lines_above s d k)) (line_checks s d k r)
       ≡ verdict_of drawing_format above (row_line k r)
   unfolding drawing_format
   line-verdict k r f =
       let line = suc (length above) in
-      let in-turn = follows drawing_form (get_last? above) (row_line k r) in
+      let in-turn = follows drawing_form (last_of above) (row_line k r) in
       let here = drawing_checks above k (row_line k r).numbers in
       let in_place : in-turn ≡ (in-turn && here.placed) =
       sym (ap (λ t. in-turn && t) (placed-anywhere k (row_line k r).numbers) ∙ and-true in-turn) in

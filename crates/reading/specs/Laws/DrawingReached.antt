@@ -1,14 +1,14 @@
 -- Reading a drawing file line by line: the scheme and the instance are those that the lines read so far hold, and a line adds what it says.
 use Prim.Native.Nat.{ℕ, suc, ◌/◌, ◌%◌, ◌≤◌, ◌<◌}
-use Rattle.std.proofs.Common.{arith, ◌∙◌, sym, inr, ⊎_elim, length-append}
-use Rattle.std.specs.Prelude.{◌≡◌, refl, true, length, ltb}
+use Rattle.std.proofs.Common.{arith, ◌∙◌, sym, subst, inr, ⊎_elim, length-append}
+use Rattle.std.specs.Prelude.{◌≡◌, refl, true, length, ltb, Some, option_map, IfSome, Result, Ok, Err}
+use Rattle.std.specs.Bool.{⊤}
 use Rattle.std.proofs.Math.Path.{ap, ap₂}
 use Rattle.std.proofs.Math.Bool.{Bool}
 use Rattle.std.proofs.lemmas.Bool.{false≢true}
-use Rattle.std.proofs.Math.Option.{some}
 use mathlib.Core.List.Memᴰ
-use mathlib.Core.List.{List, [], ◌∷◌, ◌++◌, map, get_last?}
-use Rattle.lists.specs.Lists.{all}
+use mathlib.Core.List.{List, [], ◌∷◌, ◌++◌, map}
+use Rattle.lists.specs.Lists.{all, last_of}
 use Rattle.lists.specs.Order.{rising}
 use Rattle.lists.proofs.Laws.Lists.{all-members, less, in-append}
 use Rattle.lists.proofs.Laws.Order.{before-cons}
@@ -26,17 +26,15 @@ use Rattle.model.proofs.Laws.Sound.{well-formed}
 use Rattle.model.proofs.Laws.DrawingFiles.{contents_in}
 use Rattle.model.specs.declared.Refusal.{Refusal}
 use Rattle.model.specs.declared.Refusal.TheVariants.{Malformed}
-use Rattle.forms.specs.Forms.{first_rule_kind, drawing_key}
+use Rattle.forms.specs.Forms.{of_drawing, drawing_key}
 use Rattle.text.specs.Lines.{drawing_line, Tabled, FreshLast}
-use Rattle.forms.specs.Laws.Kinds.{kind-roomy, drawing-kind}
+use Rattle.forms.specs.Laws.Kinds.{drawing-kind}
 use Rattle.text.specs.Laws.Lines.{drawing-follows, follows-above}
 use Rattle.text.specs.declared.lines.Line.{Line as PackedLine}
 use Rattle.text.specs.declared.lines.Last.{Last}
 use Rattle.graph.specs.Packed.{unpack_triple, unpack_node}
 use Rattle.verdicts.specs.Verdicts.{verdict}
 use Rattle.verdicts.specs.NextLine.{LineAt, NoLineAt}
-use Rattle.verdicts.specs.declared.Verdict.{Verdict}
-use Rattle.verdicts.specs.declared.Verdict.TheVariants.{Passes, Fails}
 use Rattle.verdicts.proofs.Laws.Verdicts.{verdict_of}
 use Rattle.verdicts.proofs.Laws.LineByLine.{Upto, upto-none, upto_next, out-of-form-read, failing-line-read, whole-read}
 use Rattle.standing.specs.Held.{scheme_with, instance_with}
@@ -47,9 +45,9 @@ use Rattle.reading.specs.Laws.DrawingLines.{row_line, passing-sound, scheme-with
 pub record Reached (text : List ℕ) (at : ℕ) (last : Last) (s : Scheme) (d : Instance) : Type 0 where
   pub above : DrawingLines
   pub upto : Upto drawing_format text at last.lines above
-  pub final : 0 < last.lines → get_last? above ≡ some (drawing_line last.line)
-  pub tabled : Tabled last.line
-  pub kind : last.line.kind < first_rule_kind
+  pub final : option_map drawing_line last.line ≡ last_of above
+  pub tabled : IfSome last.line Tabled
+  pub kind : IfSome last.line (λ a. of_drawing a.kind ≡ true)
   pub scheme : s ≡ scheme_in above
   pub instance : d ≡ instance_in above
 
@@ -62,9 +60,9 @@ reached-none text last h =
     record {
       above = [];
       upto = upto-none drawing_format text none_read;
-      final = λ m. absurd (omega arith);
-      tabled = rw line (record { kind = omega arith; row = (kind-roomy 0 (omega arith)).some-room });
-      kind = rw line (omega arith);
+      final = rw line;
+      tabled = rw line tt;
+      kind = rw line tt;
       scheme = refl;
       instance = refl;
     }
@@ -103,7 +101,7 @@ sound-room s d edge= r h = one_more d.edges (unpack_triple r) ((listed-instance 
 abbrev key_of : PackedLine → DrawingKey
 key_of l = drawing_key l.kind
 
-line-by-key : (l : PackedLine) → l.kind < first_rule_kind → drawing_line l ≡ row_line (key_of l) l.row
+line-by-key : (l : PackedLine) → of_drawing l.kind ≡ true → drawing_line l ≡ row_line (key_of l) l.row
 line-by-key l h = ap (λ k. record { key = key_of l; numbers = unrank k.rooms l.row }) (drawing-kind l.kind h)
 
 module _ {text : List ℕ} {at : ℕ} {last : Last} {s : Scheme} {d : Instance} (reached : Reached text at last s d) where
@@ -113,32 +111,32 @@ module _ {text : List ℕ} {at : ℕ} {last : Last} {s : Scheme} {d : Instance} 
   out-of-form-refused n = rw (out-of-form-read reached.upto n)
 
   module _ {l : PackedLine} {next : ℕ} (stands : LineAt drawing_format text at (drawing_line l) next) (tabled : Tabled l)
-      (kind : l.kind < first_rule_kind) where
+      (kind : of_drawing l.kind ≡ true) where
     -- the verdict on the line is that of the definition
     verdict-here : drawing_verdict s d last l ≡ verdict_of drawing_format reached.above (drawing_line l)
     unfolding drawing_verdict
     verdict-here =
         let k = key_of l in
         let above = reached.above in
-        let by : ℕ → Bool → Scheme → Instance → Verdict =
+        let by : ℕ → Bool → Scheme → Instance → Result ⊤ Refusal =
         λ n a z i. verdict (suc n) a (full (drawing_form k).most (lines_above z i k)) (line_checks z i k l.row) in
         let line = line-by-key l kind in
-        let in-turn = follows-above drawing_form drawing_line above last l reached.upto.counted reached.final
-        (λ m. drawing-follows last.line l reached.kind kind)
-        ∙ ap (follows drawing_form (get_last? above)) line in
+        let in-turn = follows-above drawing_form drawing_line above last.line l reached.final
+        (λ a e. drawing-follows a l (subst (λ o. IfSome o (λ b. of_drawing b.kind ≡ true)) e reached.kind) kind)
+        ∙ ap (follows drawing_form (last_of above)) line in
         ap₂ (λ n a. by n a s d) reached.upto.counted in-turn
-        ∙ ap₂ (by (length above) (follows drawing_form (get_last? above) (row_line k l.row))) reached.scheme reached.instance
+        ∙ ap₂ (by (length above) (follows drawing_form (last_of above) (row_line k l.row))) reached.scheme reached.instance
         ∙ line-verdict above reached.upto.passing k l.row (rw line at stands.in-form)
         ∙ ap (verdict_of drawing_format above) (sym line)
 
     -- a line that fails is refused as it fails
-    pub failing-refused : (x : Refusal) → drawing_verdict s d last l ≡ Fails x → read_drawing text ≡ refused x
+    pub failing-refused : (x : Refusal) → drawing_verdict s d last l ≡ Err x → read_drawing text ≡ refused x
     unfolding read_drawing
     failing-refused x e = rw (failing-line-read reached.upto stands (sym verdict-here ∙ e))
 
     -- a line that passes is read, and what it says is added
-    pub reached-next : drawing_verdict s d last l ≡ Passes
-        → Reached text next (record { lines = suc last.lines; line = l }) (scheme_with s (drawing_key l.kind) l.row)
+    pub reached-next : drawing_verdict s d last l ≡ Ok tt
+        → Reached text next (record { lines = suc last.lines; line = Some l }) (scheme_with s (drawing_key l.kind) l.row)
         (instance_with d (drawing_key l.kind) l.row)
     reached-next e =
         let above = reached.above in
@@ -146,7 +144,7 @@ module _ {text : List ℕ} {at : ℕ} {last : Last} {s : Scheme} {d : Instance} 
         record {
           above = above ++ (drawing_line l ∷ []);
           upto = upto_next reached.upto stands (sym verdict-here ∙ e);
-          final = λ m. last-of-append above (drawing_line l);
+          final = sym (last-of-append above (drawing_line l));
           tabled = tabled;
           kind = kind;
           scheme =
@@ -179,7 +177,7 @@ module _ {text : List ℕ} {at : ℕ} {last : Last} {s : Scheme} {d : Instance} 
 
 -- where a line passes, there is room for what it adds
 pub passing-room : {text : List ℕ} {at : ℕ} {last : Last} {s : Scheme} {d : Instance} {l : PackedLine} {next : ℕ} → Reached text at last s d
-    → LineAt drawing_format text at (drawing_line l) next → Tabled l → l.kind < first_rule_kind → drawing_verdict s d last l ≡ Passes
+    → LineAt drawing_format text at (drawing_line l) next → Tabled l → of_drawing l.kind ≡ true → drawing_verdict s d last l ≡ Ok tt
     → RoomFor s d (drawing_key l.kind) l.row
 passing-room {s = s} {d = d} {l = l} reached stands tabled kind e =
     sound-room s d (key_of l) l.row (reached-sound (reached-next reached stands tabled kind e))

@@ -13,36 +13,36 @@ check_make-requires c = search (make-row, rules)
 pub check_arm-requires : goal.check_arm-requires
 check_arm-requires c = search (arm-head, arm-name, rules)
 
-pub returns-in-6 : goal.returns-in-6
-returns-in-6 c = search (pnode-row, rules)
+pub returns-in-Pnode : goal.returns-in-Pnode
+returns-in-Pnode c = search (pnode-row, rules)
 
-pub returns-in-7 : goal.returns-in-7
+pub returns-in-Pedge : goal.returns-in-Pedge
 unfolding line_checks pedge_checks
-returns-in-7 c = rw c.in-7.is c.check_pedge.ensures
+returns-in-Pedge c = rw c.in-Pedge.is c.check_pedge.ensures
 
-pub returns-in-8 : goal.returns-in-8
+pub returns-in-Make : goal.returns-in-Make
 unfolding line_checks make_checks
-returns-in-8 c = rw c.in-8.is c.check_make.ensures
+returns-in-Make c = rw c.in-Make.is c.check_make.ensures
 
-pub returns-in-9 : goal.returns-in-9
+pub returns-in-Arm : goal.returns-in-Arm
 unfolding line_checks arm_checks
-returns-in-9 c = rw c.in-9.is c.check_arm.ensures
+returns-in-Arm c = rw c.in-Arm.is c.check_arm.ensures
 
-pub returns-in-10 : goal.returns-in-10
+pub returns-in-Put : goal.returns-in-Put
 unfolding line_checks put_checks
-returns-in-10 c = rw c.in-10.is c.check_put.ensures
+returns-in-Put c = rw c.in-Put.is c.check_put.ensures
 
-pub returns-in-11 : goal.returns-in-11
+pub returns-in-Drop : goal.returns-in-Drop
 unfolding line_checks drop_checks
-returns-in-11 c = rw c.in-11.is c.check_drop.ensures
+returns-in-Drop c = rw c.in-Drop.is c.check_drop.ensures
 
-pub returns-in-12 : goal.returns-in-12
+pub returns-in-Cut : goal.returns-in-Cut
 unfolding line_checks cut_checks
-returns-in-12 c = rw c.in-12.is c.check_cut.ensures
+returns-in-Cut c = rw c.in-Cut.is c.check_cut.ensures
 
-pub returns-in-13 : goal.returns-in-13
+pub returns-in-Group : goal.returns-in-Group
 unfolding line_checks group_checks
-returns-in-13 c = rw c.in-13.is c.check_group.ensures
+returns-in-Group c = rw c.in-Group.is c.check_group.ensures
 
 pub returns-in_default : goal.returns-in_default
 returns-in_default c = search (op_row, rules)

@@ -1,25 +1,24 @@
 -- `check_rule_line`: by a law for each outcome of its tests; what is left is the checks of the line's row. Assumes nothing.
-use native.Mathlib.Omega.{arith}
-use mathlib.Core.Path.{sym}
-use lib.Seq.{length-take-le}
 use borrow.Author.Rules.{rules}
-use Rattle.rule_lines.specs.Laws.RuleVerdict.{held-edges, in-place-fits, out-of-place, too_many, judged-so}
+use Rattle.rule_lines.specs.Laws.RuleVerdict.{held-edges, in-place-fits, out_of_order, out-of-place, too_many, judged-so}
+use Rattle.rule_lines.proofs.check_rule_line.Goals.{then-not-follows-via-then-not-follows, then-not-follows-via-else-not-follows+then-not-placed}
 use Rattle.rule_lines.proofs.check_rule_line.Goals as goal
 
-pub returns-then-not-in_place : goal.returns-then-not-in_place
-returns-then-not-in_place c = search (out-of-place, rules)
+pub returns-then-not-follows : goal.returns-then-not-follows
+returns-then-not-follows c =
+    elim c.then-not-follows.branch [
+      | then-not-follows-via-then-not-follows w ↦ search (out_of_order, rules)
+      | then-not-follows-via-else-not-follows+then-not-placed w ↦ search (out-of-place, rules)
+    ]
 
 pub returns-then-crowded : goal.returns-then-crowded
-returns-then-crowded c = search (too_many, rules)
+returns-then-crowded c = search (too_many, c.lines_above.ensures, rules)
 
-pub slice_bounds-check_row-end : goal.slice_bounds-check_row-end
-slice_bounds-check_row-end c = sym (length-take-le _ _ (omega arith))
+pub check_row-requires-clause-edges_value : goal.check_row-requires-clause-edges_value
+check_row-requires-clause-edges_value c = held-edges _ c.requires.held_rule
 
-pub slice_bounds-check_row-end-2 : goal.slice_bounds-check_row-end-2
-slice_bounds-check_row-end-2 c = sym (length-take-le _ _ (omega arith))
-
-pub check_row-requires : goal.check_row-requires
-check_row-requires c = search (held-edges, in-place-fits, rules)
+pub check_row-requires-clause-row_fits : goal.check_row-requires-clause-row_fits
+check_row-requires-clause-row_fits c = search (in-place-fits, rules)
 
 pub returns : goal.returns
-returns c = search (judged-so, rules)
+returns c = search (judged-so, c.lines_above.ensures, rules)

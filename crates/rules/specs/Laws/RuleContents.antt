@@ -1,9 +1,8 @@
 -- What the lines of a rule text say, told from the rows of each key: the pattern, the code and the action.
 -- Where each key's lines stand once or under their own code, the head and the parts are those of one key.
-use Rattle.std.specs.Prelude.{ℕ, zero, suc, ◌/◌, ◌%◌, ◌^◌, ◌<◌, ◌≤◌, ◌≡◌, refl, true, false, ◌&&◌, List, [], ◌∷◌, ◌++◌, map, length, get_or, eqb}
+use Rattle.std.specs.Prelude.{ℕ, zero, suc, ◌/◌, ◌%◌, ◌^◌, ◌<◌, ◌≤◌, ◌≡◌, refl, true, false, ◌&&◌, List, [], ◌∷◌, ◌++◌, map, length, get_or, eqb, Option, Some}
 use Rattle.std.proofs.Common.{arith, ap, ap₂, ◌∙◌, sym, append-nil}
 use Rattle.std.proofs.Math.Bool.{or-false}
-use Rattle.std.proofs.Math.Option.{Option, some}
 use Rattle.std.proofs.lemmas.Simd.{map-map}
 use Rattle.std.proofs.lemmas.Bool.{eqb-false}
 use Rattle.lists.specs.Lists.{any, ◌!◌}
@@ -14,9 +13,12 @@ use Rattle.model.specs.Files.{numbers_of, triple_of}
 use Rattle.model.specs.Files.RuleText.{RuleKey, op=, pnode=, pedge=, make=, arm=, put=, drop=, cut=, group=, rule_form, RuleLines, nodes_from, pattern_in}
 use Rattle.model.specs.Files.RuleText.{arm_of, numbers_at, action_in, stand, has_code}
 use Rattle.model.specs.InForm.{code_of}
-use Rattle.graph.specs.Packed.{unpack_triple, unpack_arm, unpack_pattern_nodes, pattern_of}
+use Rattle.graph.specs.Operations.{code_of as code_of_operation}
+use Rattle.graph.specs.Packed.{unpack_triple, unpack_arm, unpack_pattern_nodes, pattern_of, action_of as packed_action}
+use Rattle.graph.specs.declared.rule.Operation.{Operation}
+use Rattle.graph.specs.declared.rule.Operation.TheVariants.{PatternOnly, NodeAddition, EdgeAddition, NodeDeletion, EdgeDeletion, Abstraction}
 use Rattle.rules.specs.Rules.{Parts}
-use Rattle.rules.specs.Laws.RuleRows.{fields, Rows, turn, HasRows, last_of, gathered}
+use Rattle.rules.specs.Laws.RuleRows.{fields, Rows, turn, HasRows, last_row, gathered}
 
 nodes-from : (i : ℕ) (xs : List ℕ) → nodes_from i (map (fields pnode=) xs) ≡ unpack_pattern_nodes i xs
 nodes-from i [] = refl
@@ -30,24 +32,24 @@ pattern-rows ls rows h =
 
 -- what a key of one row says, told from the row, or from 0 if there is none
 first-row : {A : Type 0} (g : List ℕ → A) (k : RuleKey) (xs : List ℕ) → length xs ≤ 1 → g [] ≡ g (fields k 0)
-    → g (get_or (map (fields k) xs) 0 []) ≡ g (fields k (last_of xs))
+    → g (get_or (map (fields k) xs) 0 []) ≡ g (fields k (last_row xs))
 first-row g k [] l e = e
 first-row g k (x ∷ []) l e = refl
 first-row g k (x ∷ y ∷ xs) l e = absurd (omega arith)
 
 code-rows : (xs : List ℕ) (c : ℕ) → length xs ≤ 1
-    → any (λ x. eqb (x ! 0) c) (map (fields op=) xs) ≡ (any (λ x. true) (map (fields op=) xs) && eqb (last_of xs) c)
+    → any (λ x. eqb (x ! 0) c) (map (fields op=) xs) ≡ (any (λ x. true) (map (fields op=) xs) && eqb (last_row xs) c)
 code-rows [] c l = refl
 code-rows (x ∷ []) c l = or-false (eqb x c)
 code-rows (x ∷ y ∷ xs) c l = absurd (omega arith)
 
 -- op stands once, and so there is one code
 pub has_code_lem : (ls : RuleLines) (rows : Rows) → HasRows ls rows → length (rows op=) ≤ 1
-    → (c : ℕ) → has_code c ls ≡ (stand op= ls && eqb (last_of (rows op=)) c)
+    → (c : ℕ) → has_code c ls ≡ (stand op= ls && eqb (last_row (rows op=)) c)
 has_code_lem ls rows h once c =
     ap (any (λ x. eqb (x ! 0) c)) (h op=)
     ∙ code-rows (rows op=) c once
-    ∙ ap (λ (xs : List (List ℕ)). any (λ x. true) xs && eqb (last_of (rows op=)) c) (sym (h op=))
+    ∙ ap (λ (xs : List (List ℕ)). any (λ x. true) xs && eqb (last_row (rows op=)) c) (sym (h op=))
 
 -- of three lists, the only one that isn't empty
 pub only-first : (a b c : List ℕ) → b ≡ [] → c ≡ [] → a ++ (b ++ c) ≡ a
@@ -73,34 +75,44 @@ action_of t =
     t.code
     pattern_only
 
+-- the action of an operation is that of its code
+pub action-coded : (o : Operation) (nodes edges : List ℕ) (head : ℕ) (parts : List ℕ)
+    → packed_action o head parts ≡ action_of (record { code = code_of_operation o; nodes = nodes; edges = edges; head = head; parts = parts })
+action-coded PatternOnly nodes edges head parts = refl
+action-coded NodeAddition nodes edges head parts = refl
+action-coded EdgeAddition nodes edges head parts = refl
+action-coded NodeDeletion nodes edges head parts = refl
+action-coded EdgeDeletion nodes edges head parts = refl
+action-coded Abstraction nodes edges head parts = refl
+
 -- "Op, make, drop and group stand once", and action lines under their own code
 pub record Ruled (rows : Rows) : Type 0 where
-  pub once : (k : RuleKey) → (rule_form k).by ≡ some 0 → length (rows k) ≤ 1
-  pub alone : (k : RuleKey) → turn pedge= < turn k → (last_of (rows op=) ≡ code_of k → ⊥) → rows k ≡ []
+  pub once : (k : RuleKey) → (rule_form k).by ≡ Some 0 → length (rows k) ≤ 1
+  pub alone : (k : RuleKey) → turn pedge= < turn k → (last_row (rows op=) ≡ code_of k → ⊥) → rows k ≡ []
 
 module _ (ls : RuleLines) (rows : Rows) (h : HasRows ls rows) (r : Ruled rows) where
-  first_said : {A : Type 0} (g : List ℕ → A) (k : RuleKey) → (rule_form k).by ≡ some 0 → g [] ≡ g (fields k 0)
-      → g (numbers_at k ls) ≡ g (fields k (last_of (rows k)))
+  first_said : {A : Type 0} (g : List ℕ → A) (k : RuleKey) → (rule_form k).by ≡ Some 0 → g [] ≡ g (fields k 0)
+      → g (numbers_at k ls) ≡ g (fields k (last_row (rows k)))
   first_said g k e z = ap (λ (xs : List (List ℕ)). g (get_or xs 0 [])) (h k) ∙ first-row g k (rows k) (r.once k e) z
 
   abbrev code : ℕ
-  code = last_of (rows op=)
+  code = last_row (rows op=)
 
   -- lines of another code don't stand, so that under each code the head and the parts are those of its own lines
   other : (c : ℕ) → code ≡ c → (k : RuleKey) → turn pedge= < turn k → eqb c (code_of k) ≡ false → rows k ≡ []
   other c e k l d = r.alone k l (λ q. eqb-false c (code_of k) d (sym e ∙ q))
 
-  make-head : code ≡ 1 → (gathered rows).head ≡ last_of (rows make=)
+  make-head : code ≡ 1 → (gathered rows).head ≡ last_row (rows make=)
   make-head e =
-      ap last_of (only-first (rows make=) (rows drop=) (rows group=) (other 1 e drop= (omega arith) refl) (other 1 e group= (omega arith) refl))
+      ap last_row (only-first (rows make=) (rows drop=) (rows group=) (other 1 e drop= (omega arith) refl) (other 1 e group= (omega arith) refl))
 
-  drop_head : code ≡ 3 → (gathered rows).head ≡ last_of (rows drop=)
+  drop_head : code ≡ 3 → (gathered rows).head ≡ last_row (rows drop=)
   drop_head e =
-      ap last_of (only-second (rows make=) (rows drop=) (rows group=) (other 3 e make= (omega arith) refl) (other 3 e group= (omega arith) refl))
+      ap last_row (only-second (rows make=) (rows drop=) (rows group=) (other 3 e make= (omega arith) refl) (other 3 e group= (omega arith) refl))
 
-  group-head : code ≡ 5 → (gathered rows).head ≡ last_of (rows group=)
+  group-head : code ≡ 5 → (gathered rows).head ≡ last_row (rows group=)
   group-head e =
-      ap last_of (only_third (rows make=) (rows drop=) (rows group=) (other 5 e make= (omega arith) refl) (other 5 e drop= (omega arith) refl))
+      ap last_row (only_third (rows make=) (rows drop=) (rows group=) (other 5 e make= (omega arith) refl) (other 5 e drop= (omega arith) refl))
 
   pub arm-parts : code ≡ 1 → (gathered rows).parts ≡ rows arm=
   arm-parts e = only-first (rows arm=) (rows put=) (rows cut=) (other 1 e put= (omega arith) refl) (other 1 e cut= (omega arith) refl)

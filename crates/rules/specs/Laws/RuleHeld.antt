@@ -1,6 +1,7 @@
 -- Reading a rule text, with what stands kept in a stored rule: what holds whenever the next line is read, and the answer that comes of it.
-use Rattle.std.specs.Prelude.{ℕ, ◌+◌, ◌-◌, ◌^◌, ◌≤◌, ◌<◌, ◌≡◌, refl, Bool, true, false, List, [], map, length}
-use Rattle.std.proofs.Common.{arith, add-one, sym, ◌∙◌, leb-false}
+use Rattle.std.specs.Prelude.{ℕ, ◌+◌, ◌^◌, ◌≤◌, ◌<◌, ◌≡◌, refl, Bool, true, false, List, [], map, length, Option, None, Some, option_map, Result, Ok, Err}
+use Rattle.std.specs.Bool.{⊤}
+use Rattle.std.proofs.Common.{arith, add-one, ap, sym, ◌∙◌, leb-false}
 use Rattle.lists.specs.Order.{rising}
 use Rattle.model.specs.Limits
 use Rattle.model.specs.Graph.{Scheme, row, scheme_listed}
@@ -9,44 +10,46 @@ use Rattle.model.specs.Files.RuleText.{rule_format, RuleKey, op=, pnode=, pedge=
 use Rattle.model.proofs.Laws.Graph.{listed-scheme}
 use Rattle.model.specs.declared.Refusal.{Refusal}
 use Rattle.model.specs.declared.Refusal.TheVariants.{Malformed}
-use Rattle.forms.specs.Forms.{first_rule_kind, rule_key}
-use Rattle.text.specs.Lines.{rule_line, Tabled, FreshLast}
+use Rattle.lists.specs.Radix.{within, unrank}
+use Rattle.lists.proofs.Laws.Lists.{both, less}
+use Rattle.model.specs.InForm.{LineInForm}
+use Rattle.forms.specs.Forms.{of_drawing, rule_key, rule_kind}
+use Rattle.forms.specs.Laws.Kinds.{rule-kind}
+use Rattle.text.specs.Lines.{rule_line, RuleParsed, Tabled, FreshLast}
+use Rattle.graph.specs.Operations.{code_of}
 use Rattle.text.specs.declared.lines.Line.{Line}
 use Rattle.text.specs.declared.lines.Last.{Last}
 use Rattle.graph.specs.Packed.{FreshRule, unpack_pattern}
 use Rattle.graph.specs.declared.rule.PackedRule.{PackedRule}
-use Rattle.verdicts.specs.NextLine.{LineAt, NextRuleLine}
-use Rattle.verdicts.specs.declared.lines.Next.{Next}
-use Rattle.verdicts.specs.declared.lines.Next.TheVariants as the-next
-use Rattle.verdicts.specs.declared.Verdict.{Verdict}
-use Rattle.verdicts.specs.declared.Verdict.TheVariants.{Passes, Fails}
-use Rattle.verdicts.specs.declared.Answer.TheVariants.{Accepted, Refused}
+use Rattle.verdicts.specs.NextLine.{LineAt, Unended, LineBytes}
+use Rattle.verdicts.proofs.Laws.NextLine.{unended-no-line, out-of-form, line-here}
 use Rattle.verdicts.proofs.Laws.Verdicts.{uncrowded}
 use Rattle.rule_lines.specs.RuleLines.{rule_verdict, FitsRule, HeldRule, Coming, lines_above}
 use Rattle.rule_lines.specs.Laws.RuleVerdict.{pattern-order, pattern-size}
-use Rattle.rules.specs.Rules.{Room, parts_of, KeptRule, is_complete, read_as, HasRoomFor}
+use Rattle.rules.specs.Rules.{Room, parts_of, KeptRule, is_complete, HasRoomFor}
 use Rattle.rules.specs.Readers.{ReadRule}
-use Rattle.rules.specs.declared.RuleRead.{RuleRead}
 use Rattle.rules.specs.Laws.RuleReached.{Reached, reached-none, reached-next, reached-held, out-of-form-refused, failing-refused, missing-refused}
 use Rattle.rules.specs.Laws.RuleReached.{row_fits, read-accepted, read-refused}
 
 -- # Room for what a line adds
 -- a line that passes finds room
-room-left : (s : Scheme) (r : PackedRule) (last : Last) (l : Line) → FitsRule r → Tabled l → first_rule_kind ≤ l.kind
-    → rule_verdict s r last l ≡ Passes → Room r l
-unfolding rule_verdict lines_above
-room-left s r last l fits tabled kind e = record { kind = kind; tabled = tabled; room = go (rule_key l.kind) (uncrowded _ _ _ _ e) }
+room-left : (s : Scheme) (r : PackedRule) (last : Last) (l : Line) → FitsRule r → LineInForm (rule_format s) (rule_line l) → of_drawing l.kind ≡ false
+    → rule_verdict s r last l ≡ Ok tt → Room r l
+unfolding rule_verdict lines_above rule_format
+room-left s r last l fits in-form kind e =
+    record { kind = kind; room = go (rule_key l.kind) (rw (rule-kind l.kind kind) at in-form.limited) (uncrowded _ _ _ _ e) }
   where
-    go : (k : RuleKey) → full (rule_form k).most (lines_above (unpack_pattern r.pattern) r.action.count k) ≡ false → HasRoomFor r k
-    go op= c = tt
-    go pnode= c = omega (arith, pattern-order r fits, leb-false Limits.pattern_nodes (length (unpack_pattern r.pattern).nodes) c)
-    go pedge= c = omega (arith, pattern-size r fits, leb-false Limits.pattern_edges (length (unpack_pattern r.pattern).edges) c)
-    go make= c = tt
-    go arm= c = leb-false Limits.arms r.action.count c
-    go put= c = leb-false Limits.puts r.action.count c
-    go drop= c = tt
-    go cut= c = leb-false Limits.cuts r.action.count c
-    go group= c = tt
+    go : (k : RuleKey) → within (rule_form k).below (unrank (rule_kind k).rooms l.row) ≡ true
+        → full (rule_form k).most (lines_above (unpack_pattern r.pattern) r.action.count k) ≡ false → HasRoomFor r k l.row
+    go op= w c = let small = simp (both, less) at w in omega arith
+    go pnode= w c = omega (arith, pattern-order r fits, leb-false Limits.pattern_nodes (length (unpack_pattern r.pattern).nodes) c)
+    go pedge= w c = omega (arith, pattern-size r fits, leb-false Limits.pattern_edges (length (unpack_pattern r.pattern).edges) c)
+    go make= w c = tt
+    go arm= w c = leb-false Limits.arms r.action.count c
+    go put= w c = leb-false Limits.puts r.action.count c
+    go drop= w c = tt
+    go cut= w c = leb-false Limits.cuts r.action.count c
+    go group= w c = tt
 
 -- # A fresh rule
 fresh-fits : (r : PackedRule) → FreshRule r → FitsRule r
@@ -63,7 +66,7 @@ fresh-fits r h =
     }
 
 fresh-parts : (r : PackedRule) → FreshRule r → parts_of r ≡ record { code = 0; nodes = []; edges = []; head = 0; parts = [] }
-fresh-parts r h = let p = h.pattern in let a = h.action in rw (p.order, p.size, a.code, a.head, a.none)
+fresh-parts r h = let p = h.pattern in let a = h.action in rw (p.order, p.size, a.operation, a.head, a.none)
 
 -- # How far a text is read
 -- the text is read up to a place, and what the lines above it hold stands in the rule
@@ -84,48 +87,57 @@ module _ {s : Scheme} {text : List ℕ} {at : ℕ} {last : Last} {r : PackedRule
   read-to-held = reached-held read.reached r read.fits refl
 
   -- the end
-  module _ (end : length text ≤ at) {b : Bool} (made : b ≡ is_complete last r.action.code) where
-    pub missing-read : b ≡ false → {a : RuleRead} → a ≡ read_as (Refused (Malformed (last.lines + 1))) r → ReadRule s text a
-    missing-read c e = rw (e, add-one) (read-refused s text r _ (missing-refused read.reached end (sym made ∙ c)))
+  module _ (end : length text ≤ at) {b : Bool} (made : b ≡ is_complete last.line (code_of r.action.operation)) where
+    pub missing-read : b ≡ false → ReadRule s text (Err (Malformed (last.lines + 1)))
+    missing-read c = rw add-one (read-refused s text _ (missing-refused read.reached end (sym made ∙ c)))
 
-    pub complete-read : scheme_listed s ≡ true → b ≡ true → {a : RuleRead} → a ≡ read_as Accepted r → ReadRule s text a
-    complete-read listed c e = rw e (read-accepted read.reached listed end (sym made ∙ c) r read.fits refl)
+    pub complete-read : scheme_listed s ≡ true → b ≡ true → ReadRule s text (Ok r)
+    complete-read listed c = read-accepted read.reached listed end (sym made ∙ c) r read.fits refl
 
-  module _ {o : Next} (found : NextRuleLine text at o) where
-    -- a line out of form
-    pub malformed-read : o ≡ the-next.Malformed → {a : RuleRead} → a ≡ read_as (Refused (Malformed (last.lines + 1))) r → ReadRule s text a
-    malformed-read n e = rw (e, add-one) (read-refused s text r _ (out-of-form-refused read.reached (found.malformed n s)))
+  module _ (left : at < length text) where
+    -- no byte 10 ends the line
+    pub unended-read : Unended text at → ReadRule s text (Err (Malformed (last.lines + 1)))
+    unended-read u = rw add-one (read-refused s text _ (out-of-form-refused read.reached (unended-no-line (rule_format s) text at left u)))
 
-    -- the next line
-    module _ {l : Line} {next : ℕ} (is : o ≡ the-next.Line l next) where
-      stands : LineAt (rule_format s) text at (rule_line l) next
-      stands = found.line l next is s
+    module _ {b : List ℕ} (found : LineBytes text at b) {o : Option Line} (parsed : RuleParsed b o) where
+      -- a line out of form
+      pub malformed-read : o ≡ None → ReadRule s text (Err (Malformed (last.lines + 1)))
+      malformed-read n =
+          rw add-one
+          (read-refused s text _
+          (out-of-form-refused read.reached (out-of-form (rule_format s) text at left found (ap (option_map rule_line) (sym n) ∙ parsed.line s))))
 
-      tabled : Tabled l
-      tabled = (found.tabled l next is).0
+      -- the next line
+      module _ {l : Line} (is : o ≡ Some l) where
+        abbrev next : ℕ
+        next = at + length b + 1
 
-      kind : first_rule_kind ≤ l.kind
-      kind = (found.tabled l next is).1
+        stands : LineAt (rule_format s) text at (rule_line l) next
+        stands = line-here (rule_format s) text at left found (rule_line l) (ap (option_map rule_line) (sym is) ∙ parsed.line s)
 
-      pub read-to-coming : last.lines + 1 < 2 ^ 64 → Coming r last l
-      read-to-coming h =
-          record { above = read.reached.tabled; few = omega arith; kind = kind; tabled = tabled; row = row_fits read.reached stands tabled kind }
+        tabled : Tabled l
+        tabled = (parsed.tabled l is).0
 
-      pub read-to-less : length text - next < length text - at
-      read-to-less = omega (arith, stands.later, stands.within)
+        kind : of_drawing l.kind ≡ false
+        kind = (parsed.tabled l is).1
 
-      module _ (listed : scheme_listed s ≡ true) {v : Verdict} (asked : v ≡ rule_verdict s r last l) where
-        pub failing-read : {x : Refusal} → v ≡ Fails x → {a : RuleRead} → a ≡ read_as (Refused x) r → ReadRule s text a
-        failing-read {x} e q =
-            rw q (read-refused s text r x (failing-refused read.reached stands tabled kind listed r read.fits refl x (sym asked ∙ e)))
+        pub read-to-coming : last.lines + 1 < 2 ^ 64 → Coming r last l
+        read-to-coming h =
+            record { above = read.reached.tabled; few = omega arith; kind = kind; tabled = tabled; row = row_fits read.reached stands tabled kind }
 
-        module _ (e : v ≡ Passes) where
-          pub read-to-room : Room r l
-          read-to-room = room-left s r last l read.fits tabled kind (sym asked ∙ e)
+        module _ (listed : scheme_listed s ≡ true) {v : Result ⊤ Refusal} (asked : v ≡ rule_verdict s r last l) where
+          pub failing-read : {x : Refusal} → v ≡ Err x → ReadRule s text (Err x)
+          failing-read {x} e = read-refused s text x (failing-refused read.reached stands tabled kind listed r read.fits refl x (sym asked ∙ e))
 
-          pub read-to-next : {r' : PackedRule} → KeptRule r l r' → ReadTo s text next (record { lines = last.lines + 1; line = l }) r'
-          read-to-next k =
-              record {
-                reached = rw (add-one last.lines, k.parts) (reached-next read.reached stands tabled kind listed r read.fits refl (sym asked ∙ e));
-                fits = k.fits;
-              }
+          module _ (e : v ≡ Ok tt) where
+            pub read-to-room : Room r l
+            read-to-room = room-left s r last l read.fits stands.in-form kind (sym asked ∙ e)
+
+            pub read-to-next : {r' : PackedRule} → KeptRule r l r' → ReadTo s text (at + (length b + 1)) (record { lines = last.lines + 1; line = Some l }) r'
+            read-to-next k =
+                let there : at + (length b + 1) ≡ next = omega arith in
+                record {
+                  reached =
+                      rw (there, add-one last.lines, k.parts) (reached-next read.reached stands tabled kind listed r read.fits refl (sym asked ∙ e));
+                  fits = k.fits;
+                }

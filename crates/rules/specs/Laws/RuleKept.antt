@@ -1,46 +1,40 @@
--- What stands in a stored rule with one line more, by a law for each way that a test of the code can go: a key at the end of those that stand,
--- or another code or head; and whether the text may end there.
-use Rattle.std.specs.Prelude.{ℕ, ◌+◌, ◌≤◌, ◌<◌, ◌≡◌, Bool, List, set, leb}
+-- What stands in a stored rule with one line more, by its kind: a key at the end of those that stand, or another operation or head.
+use Rattle.std.specs.Prelude.{ℕ, ◌+◌, ◌≤◌, ◌<◌, ◌≡◌, List, set}
 use Rattle.std.proofs.Common.{arith, ◌∙◌, length-set}
-use Rattle.std.proofs.Math.Path.{refl, sym}
-use Rattle.std.proofs.Math.Bool.{true, false}
+use Rattle.std.proofs.Math.Path.{refl}
 use Rattle.std.proofs.Math.ListN.{length}
-use borrow.Author.Tests.{lt-ltb, ne_eqb}
 use Rattle.lists.proofs.Laws.OneMore.{stored_last}
 use Rattle.model.specs.Limits
-use Rattle.forms.specs.Forms.{first_rule_kind, kind_count, rule_key}
+use Rattle.forms.specs.declared.LineKind.TheVariants.{Op, Pnode, Pedge, Arm, Put, Cut}
+use Rattle.graph.specs.Operations.{code_of}
+use Rattle.graph.specs.declared.rule.Operation.{Operation}
 use Rattle.text.specs.declared.lines.Line.{Line}
-use Rattle.text.specs.declared.lines.Last.{Last}
 use Rattle.graph.specs.declared.rule.PackedRule.{PackedRule}
 use Rattle.rule_lines.specs.RuleLines.{FitsRule}
-use Rattle.rules.specs.Rules.{Room, has_parts, parts_of, with, KeptRule, is_complete}
-use Rattle.rules.specs.Laws.RuleParts.{has-parts-by-kind, action-line-added, room-for-node, room-for-edge, room-for-part}
-
-pub without-parts : (kind : ℕ) → first_rule_kind ≤ kind → kind < kind_count → (kind ≡ 9 → ⊥) → (kind ≡ 10 → ⊥) → (kind ≡ 12 → ⊥)
-    → false ≡ has_parts (rule_key kind)
-without-parts kind h k arm put cut = rw (has-parts-by-kind kind h k, ne_eqb kind 9 arm, ne_eqb kind 10 put, ne_eqb kind 12 cut)
+use Rattle.rules.specs.Rules.{Room, parts_of, with, KeptRule}
+use Rattle.rules.specs.Laws.RuleParts.{IsPart, part-added, head-added, room-for-node, room-for-edge, room-for-part}
 
 module _ (r : PackedRule) (l : Line) (f : FitsRule r) (q : Room r l) where
   -- arrays of the same lengths, with no more in them than may be
-  fits-then : {code head order size count : ℕ} {nodes edges parts : List ℕ} → length nodes ≡ length r.pattern.nodes
+  fits-then : {operation : Operation} {head order size count : ℕ} {nodes edges parts : List ℕ} → length nodes ≡ length r.pattern.nodes
       → length edges ≡ length r.pattern.edges → length parts ≡ length r.action.parts
       → order ≤ Limits.pattern_nodes → size ≤ Limits.pattern_edges → count ≤ Limits.puts
       → FitsRule record {
         pattern = record { nodes = nodes; order = order; edges = edges; size = size };
-        action = record { code = code; head = head; parts = parts; count = count };
+        action = record { operation = operation; head = head; parts = parts; count = count };
       }
   fits-then n e p i j k =
       record { nodes_room = n ∙ f.nodes_room; edges_room = e ∙ f.edges_room; parts_room = p ∙ f.parts_room; order = i; size = j; count = k }
 
-  pub kept_op : l.kind ≡ 5
+  pub kept_op : l.kind ≡ Op → {o : Operation} → code_of o ≡ l.row
       → KeptRule r l (record {
         pattern = r.pattern;
-        action = record { code = l.row; head = r.action.head; parts = r.action.parts; count = r.action.count };
+        action = record { operation = o; head = r.action.head; parts = r.action.parts; count = r.action.count };
       })
   unfolding with
-  kept_op e = record { fits = fits-then refl refl refl f.order f.size f.count; parts = rw e }
+  kept_op e coded = record { fits = fits-then refl refl refl f.order f.size f.count; parts = rw (e, coded) }
 
-  pub kept-node : l.kind ≡ 6
+  pub kept-node : l.kind ≡ Pnode
       → KeptRule r l (record {
         pattern = record {
           nodes = set r.pattern.nodes r.pattern.order l.row;
@@ -59,7 +53,7 @@ module _ (r : PackedRule) (l : Line) (f : FitsRule r) (q : Room r l) where
         parts = rw (e, stored_last r.pattern.nodes r.pattern.order l.row room);
       }
 
-  pub kept-edge : l.kind ≡ 7
+  pub kept-edge : l.kind ≡ Pedge
       → KeptRule r l (record {
         pattern = record {
           nodes = r.pattern.nodes;
@@ -78,60 +72,33 @@ module _ (r : PackedRule) (l : Line) (f : FitsRule r) (q : Room r l) where
         parts = rw (e, stored_last r.pattern.edges r.pattern.size l.row room);
       }
 
-  module _ (op : l.kind ≡ 5 → ⊥) (pnode : l.kind ≡ 6 → ⊥) (pedge : l.kind ≡ 7 → ⊥) {o : Bool} (several : o ≡ has_parts (rule_key l.kind)) where
-    pub kept-part : o ≡ true
-        → KeptRule r l (record {
-          pattern = r.pattern;
-          action = record {
-            code = r.action.code;
-            head = r.action.head;
-            parts = set r.action.parts r.action.count l.row;
-            count = r.action.count + 1;
-          };
-        })
-    unfolding with
-    kept-part e =
-        let part : has_parts (rule_key l.kind) ≡ true = sym several ∙ e in
-        let less = room-for-part r l q several e in
-        let room : r.action.count < length r.action.parts = omega (arith, f.parts_room) in
-        record {
-          fits = fits-then refl refl (length-set r.action.parts r.action.count l.row) f.order f.size (omega arith);
-          parts =
-              rw (
-                action-line-added l.kind q.kind q.tabled.kind (parts_of r) l.row (omega arith),
-                part,
-                stored_last r.action.parts r.action.count l.row room,
-              );
-        }
+  pub kept-part : IsPart l.kind
+      → KeptRule r l (record {
+        pattern = r.pattern;
+        action = record {
+          operation = r.action.operation;
+          head = r.action.head;
+          parts = set r.action.parts r.action.count l.row;
+          count = r.action.count + 1;
+        };
+      })
+  unfolding with
+  kept-part e =
+      let less = room-for-part r l q e in
+      let room : r.action.count < length r.action.parts = omega (arith, f.parts_room) in
+      record {
+        fits = fits-then refl refl (length-set r.action.parts r.action.count l.row) f.order f.size (omega arith);
+        parts = rw (part-added (parts_of r) l.row l.kind e, stored_last r.action.parts r.action.count l.row room);
+      }
 
-    pub kept-head : o ≡ false
-        → KeptRule r l (record {
-          pattern = r.pattern;
-          action = record { code = r.action.code; head = l.row; parts = r.action.parts; count = r.action.count };
-        })
-    unfolding with
-    kept-head e =
-        let whole : has_parts (rule_key l.kind) ≡ false = sym several ∙ e in
-        record {
-          fits = fits-then refl refl refl f.order f.size f.count;
-          parts =
-              rw (
-                action-line-added l.kind q.kind q.tabled.kind (parts_of r) l.row (omega arith),
-                whole,
-              );
-        }
-
--- # The end of a text
-module _ (last : Last) (code : ℕ) where
-  pub complete-none : last.lines ≡ 0 → false ≡ is_complete last code
-  unfolding is_complete
-  complete-none e = rw e
-
-  module _ (more : last.lines ≡ 0 → ⊥) where
-    pub complete-pattern-only : code ≡ 0 → true ≡ is_complete last code
-    unfolding is_complete
-    complete-pattern-only e = rw (lt-ltb 0 last.lines (omega arith), e)
-
-    pub complete-action : (code ≡ 0 → ⊥) → leb 8 last.line.kind ≡ is_complete last code
-    unfolding is_complete
-    complete-action d = rw (lt-ltb 0 last.lines (omega arith), ne_eqb code 0 d)
+  pub kept-head : (l.kind ≡ Op → ⊥) → (l.kind ≡ Pnode → ⊥) → (l.kind ≡ Pedge → ⊥) → (l.kind ≡ Arm → ⊥) → (l.kind ≡ Put → ⊥) → (l.kind ≡ Cut → ⊥)
+      → KeptRule r l (record {
+        pattern = r.pattern;
+        action = record { operation = r.action.operation; head = l.row; parts = r.action.parts; count = r.action.count };
+      })
+  unfolding with
+  kept-head op pnode pedge arm put cut =
+      record {
+        fits = fits-then refl refl refl f.order f.size f.count;
+        parts = rw (head-added (parts_of r) l.row l.kind q.kind op pnode pedge arm put cut);
+      }

@@ -1,17 +1,15 @@
 -- A line of a rule text under lines that pass: the verdict that is told from the rows above it is the definition's.
 -- Each of the five tests is told from the rows; the pattern conforms already, so that only what the line adds is looked at.
-use Prim.Native.Nat.{ℕ, suc, ◌+◌, ◌/◌, ◌%◌, ◌^◌, ◌<◌}
+use Prim.Native.Nat.{ℕ, suc, ◌/◌, ◌%◌, ◌^◌, ◌<◌}
 use Rattle.std.proofs.Common.{arith, ap₂, ◌∙◌, length-append, eqb-true, eq-eqb, ne_eqb, lt-ltb}
-use Rattle.std.specs.Prelude.{◌≡◌, ◌⊎◌, Bool, false, cond, not, ◌&&◌, length, ltb}
+use Rattle.std.specs.Prelude.{◌≡◌, Bool, false, cond, not, ◌&&◌, length, ltb, Option, None, Some}
 use Rattle.std.proofs.Math.Path.{refl, ap, sym, subst}
-use Rattle.std.proofs.Math.Logic.{⊎_elim}
 use Rattle.std.proofs.Math.Bool.{true, ◌||◌, and-false, or-true}
 use Rattle.std.proofs.lemmas.Bool.{false≢true, eqb-false}
-use Rattle.std.proofs.Math.Option.{Option, none, some}
-use mathlib.Core.List.{List, [], ◌∷◌, ◌++◌, map, map-append, get_last?}
+use mathlib.Core.List.{List, [], ◌∷◌, ◌++◌, map, map-append}
 use Rattle.std.proofs.lemmas.List.{length-map}
-use Rattle.std.proofs.Math.Dec.{eqb, leb}
-use Rattle.lists.specs.Lists.{any, ◌!◌}
+use Rattle.std.proofs.Math.Dec.{eqb}
+use Rattle.lists.specs.Lists.{any, ◌!◌, last_of}
 use Rattle.lists.specs.Order.{rising}
 use Rattle.lists.proofs.Laws.Lists.{both, any-member, no_member}
 use Rattle.model.specs.Graph.{Scheme, Pattern, declares, is_object, is_value, is_functional, joins, of_class, both_given, pattern_conforms, scheme_listed}
@@ -24,51 +22,51 @@ use Rattle.model.specs.InForm.{LineInForm}
 use Rattle.model.proofs.Laws.Passing.{Passing}
 use Rattle.model.proofs.Laws.RulePatterns.{pattern-conforms}
 use Rattle.model.proofs.Laws.RuleActions.{led-by}
-use Rattle.forms.specs.Forms.{first_rule_kind}
-use Rattle.text.specs.Lines.{rule_line, Tabled}
-use Rattle.text.specs.declared.lines.Last.{Last}
+use Rattle.text.specs.Lines.{rule_line}
+use Rattle.text.specs.declared.lines.Line.{Line as PackedLine}
+use Rattle.std.specs.Option.{is_some}
 use Rattle.graph.specs.Packed.{unpack_triple, unpack_arm, unpack_pattern_node, unpack_pattern_nodes, pattern_of}
 use Rattle.verdicts.specs.Verdicts.{verdict}
 use Rattle.verdicts.proofs.Laws.Verdicts.{Agree, verdict-agrees, verdict_of}
 use Rattle.verdicts.proofs.Laws.Edges.{edge-conforms, node-conforms}
 use Rattle.pattern_lines.specs.PatternLines.{knows, pnode_checks, pedge_checks}
 use Rattle.action_lines.specs.ActionLines.{make_checks, arm_checks, put_checks, drop_checks, cut_checks, group_checks}
-use Rattle.rule_lines.specs.RuleLines.{line_checks, lines_above, placed}
+use Rattle.rule_lines.specs.RuleLines.{line_checks, lines_above, in_action, placed}
 use Rattle.pattern_lines.specs.Laws.Patterns.{nodes-length, nodes-rise, node-more, edge_more}
 use Rattle.rules.specs.Rules.{Parts}
 use Rattle.rules.specs.Rules.{is_complete}
-use Rattle.rules.specs.Laws.RuleRows.{fields, row_line, Rows, turn, HasRows, rows-with, rows_with, last_of, gathered}
+use Rattle.rules.specs.Laws.RuleRows.{fields, row_line, Rows, HasRows, rows-with, rows_with, last_row, gathered}
 use Rattle.rules.specs.Laws.RuleContents.{pattern-rows, has_code_lem, Ruled, arm-parts, put-parts, cut_parts, made-class}
-use Rattle.rules.specs.Laws.RuleOrder.{op-first, LastRead, ruled, later_rows, edges-rise-with, acting, made}
+use Rattle.rules.specs.Laws.RuleOrder.{op-first, LastRead, Ends, ruled, later_rows, edges-rise-with, acting, made}
 
 -- # Values
 both-given-symmetric : (v w : Option ℕ) → both_given v w ≡ true → both_given w v ≡ true
-both-given-symmetric none w h = absurd (false≢true h)
-both-given-symmetric (some v) none h = h
-both-given-symmetric (some v) (some w) h = eq-eqb w v (sym (eqb-true v w h))
+both-given-symmetric None w h = absurd (false≢true h)
+both-given-symmetric (Some v) None h = h
+both-given-symmetric (Some v) (Some w) h = eq-eqb w v (sym (eqb-true v w h))
 
-left_out : (v : Option ℕ) → both_given v none ≡ false
-left_out none = refl
-left_out (some v) = refl
+left_out : (v : Option ℕ) → both_given v None ≡ false
+left_out None = refl
+left_out (Some v) = refl
 
 -- a node's value fits exactly if it is given in a value class only, and no node above has the same one
 value-fits : (s : Scheme) (p : Pattern) (c given v : ℕ) → given < 2 → (is_object s c ≡ false → is_value s c ≡ true)
-    → let w : Option ℕ = cond (eqb given 1) (some v) none in
+    → let w : Option ℕ = cond (eqb given 1) (Some v) None in
     (pnode_checks s p (record { number = 0; class = c; value = w })).conforming
     ≡ ((not (is_object s c) || eqb given 0) && not (is_value s c && any (λ m. eqb m.class c && both_given m.value w) p.nodes))
 unfolding pnode_checks
 value-fits s p c given v l value = go (eqb given 1) refl (is_object s c) refl
   where
     go : (t : Bool) → eqb given 1 ≡ t → (o : Bool) → is_object s c ≡ o
-        → let w : Option ℕ = cond t (some v) none in
+        → let w : Option ℕ = cond t (Some v) None in
         (pnode_checks s p (record { number = 0; class = c; value = w })).conforming
         ≡ ((not (is_object s c) || eqb given 0) && not (is_value s c && any (λ m. eqb m.class c && both_given m.value w) p.nodes))
     go true e true o = let one = eqb-true given 1 e in rw (o, ne_eqb given 0 (λ z. omega arith))
     go true e false o = rw (o, value o)
     go false e b o =
         let other : given ≡ 1 → ⊥ = eqb-false given 1 e in
-        let none-twin : any (λ m. eqb m.class c && both_given m.value none) p.nodes ≡ false =
-        (no_member (λ m. eqb m.class c && both_given m.value none) p.nodes).1 (λ m i. rw left_out (and-false (eqb m.class c))) in
+        let none-twin : any (λ m. eqb m.class c && both_given m.value None) p.nodes ≡ false =
+        (no_member (λ m. eqb m.class c && both_given m.value None) p.nodes).1 (λ m i. rw left_out (and-false (eqb m.class c))) in
         rw (eq-eqb given 0 (omega arith), or-true, none-twin, and-false)
 
 -- # Verdicts
@@ -90,7 +88,7 @@ module _ (s : Scheme) (above : RuleLines) (passing : Passing (rule_format s) abo
   p = pattern_of (rows pnode=) (rows pedge=)
 
   abbrev code : ℕ
-  code = last_of (rows op=)
+  code = last_row (rows op=)
 
   whole : Ruled rows
   whole = ruled s above passing rows h
@@ -130,7 +128,7 @@ module _ (s : Scheme) (above : RuleLines) (passing : Passing (rule_format s) abo
   crowded-same group= x c = refl
 
   module _ (x : ℕ) where
-    module _ (in-form : LineInForm (rule_format s) (row_line pnode= x)) (in-turn : follows rule_form (get_last? above) (row_line pnode= x) ≡ true) where
+    module _ (in-form : LineInForm (rule_format s) (row_line pnode= x)) (in-turn : follows rule_form (last_of above) (row_line pnode= x) ≡ true) where
       -- no edge stands yet
       pnode-conforming : scheme_listed s ≡ true → declares s.classes (fields pnode= x ! 0) ≡ true
           → (pnode_checks s p (unpack_pattern_node 0 x)).conforming ≡ (rule_checks s above pnode= (fields pnode= x)).conforming
@@ -153,7 +151,7 @@ module _ (s : Scheme) (above : RuleLines) (passing : Passing (rule_format s) abo
           (value-class s ((listed-scheme s).0 listed).classes c d)
           ∙ ap (λ b. (not (is_object s c) || eqb (fields pnode= x ! 1) 0) && b) (sym conforming)
 
-    pedge-conforming : LineInForm (rule_format s) (row_line pedge= x) → follows rule_form (get_last? above) (row_line pedge= x) ≡ true
+    pedge-conforming : LineInForm (rule_format s) (row_line pedge= x) → follows rule_form (last_of above) (row_line pedge= x) ≡ true
         → (pedge_checks s p (unpack_triple x)).conforming ≡ (rule_checks s above pedge= (fields pedge= x)).conforming
     unfolding rule_checks pedge_checks
     pedge-conforming i f =
@@ -165,7 +163,7 @@ module _ (s : Scheme) (above : RuleLines) (passing : Passing (rule_format s) abo
 
   -- causes 3 to 5 of a line that may stand there come to what the definition says
   checks-agree : scheme_listed s ≡ true → (k : RuleKey) (x : ℕ) → LineInForm (rule_format s) (row_line k x)
-      → follows rule_form (get_last? above) (row_line k x) ≡ true
+      → follows rule_form (last_of above) (row_line k x) ≡ true
       → (rule_checks s above k (fields k x)).placed ≡ true → Agree (line_checks s (pattern_in above) t.head k x) (rule_checks s above k (fields k x))
   unfolding rule_checks line_checks pnode_checks pedge_checks make_checks arm_checks put_checks drop_checks cut_checks group_checks knows
   checks-agree listed op= x i f c = record { declared = refl; conforming = λ d. refl; suited = refl }
@@ -197,53 +195,46 @@ module _ (s : Scheme) (above : RuleLines) (passing : Passing (rule_format s) abo
   checks-agree listed group= x i f c = record { declared = refl; conforming = λ d. refl; suited = refl }
 
   -- # Where a line may stand
-  module _ (last : Last) (lines : last.lines ≡ length above) (ends : (above ≡ []) ⊎ LastRead last above) (tabled : Tabled last.line) where
-    some-line : ltb 0 last.lines ≡ ltb 0 (length above)
-    some-line = ap (ltb 0) lines
+  some-above : (a : PackedLine) → LastRead a above → ltb 0 (length above) ≡ true
+  some-above a q = lt-ltb 0 (length above) (omega (arith, ap length q.split, length-append q.front (rule_line a ∷ [])))
 
-    under-code : (c : ℕ) → (ltb 0 last.lines && eqb code c) ≡ has_code c above
-    under-code c = ap (λ b. b && eqb code c) some-line ∙ sym (code-above c)
+  some-line : (last : Option PackedLine) → Ends last above → is_some last ≡ ltb 0 (length above)
+  some-line None e = rw e
+  some-line (Some a) q = sym (some-above a q)
 
-    some-above : LastRead last above → ltb 0 (length above) ≡ true
-    some-above q = lt-ltb 0 (length above) (omega (arith, ap length q.split, length-append q.front (rule_line last.line ∷ [])))
+  under-make : (last : Option PackedLine) → Ends last above → (x : ℕ) → follows rule_form (last_of above) (row_line arm= x) ≡ true
+      → in_action last ≡ stand make= above
+  under-make None e x f = rw e
+  under-make (Some a) q x f = sym (made s above passing a q x f)
 
-    under-make : (x : ℕ) → follows rule_form (get_last? above) (row_line arm= x) ≡ true
-        → (ltb 0 last.lines && leb (turn make= + first_rule_kind) last.line.kind) ≡ stand make= above
-    under-make x f =
-        let late = leb (turn make= + first_rule_kind) last.line.kind in
-        ap (λ b. b && late) some-line
-        ∙ ⊎_elim (λ e. subst (λ (ls : RuleLines). (ltb 0 (length ls) && late) ≡ stand make= ls) (sym e) refl)
-        (λ q. rw (some-above q) (sym (made s above passing last q tabled x f)))
-        ends
+  -- none is missing at the end: code 0, or an action line
+  pub complete-same : (last : Option PackedLine) → Ends last above → is_complete last code ≡ (rule_format s).complete above
+  unfolding is_complete rule_format
+  complete-same None e = subst (λ (ls : RuleLines). false ≡ (rule_format s).complete ls) (sym e) refl
+  complete-same (Some a) q =
+      let coded : eqb code 0 ≡ has_code 0 above = sym (code-above 0 ∙ ap (λ b. b && eqb code 0) (some-above a q)) in
+      ap₂ ◌||◌ coded (sym (acting s above passing a q))
 
-    placed_same : (k : RuleKey) (x : ℕ) → follows rule_form (get_last? above) (row_line k x) ≡ true
+  module _ (last : Option PackedLine) (ends : Ends last above) where
+    under-code : (c : ℕ) → (is_some last && eqb code c) ≡ has_code c above
+    under-code c = ap (λ b. b && eqb code c) (some-line last ends) ∙ sym (code-above c)
+
+    placed_same : (k : RuleKey) (x : ℕ) → follows rule_form (last_of above) (row_line k x) ≡ true
         → placed last code k x ≡ (rule_checks s above k (fields k x)).placed
     unfolding placed rule_checks
     placed_same op= x f = refl
-    placed_same pnode= x f = ap (λ b. b && (eqb (x / 2 ^ 32 % 2) 1 || eqb (x % 2 ^ 32) 0)) (some-line ∙ sym (op-first s above passing))
-    placed_same pedge= x f = some-line ∙ sym (op-first s above passing)
+    placed_same pnode= x f = ap (λ b. b && (eqb (x / 2 ^ 32 % 2) 1 || eqb (x % 2 ^ 32) 0)) (some-line last ends ∙ sym (op-first s above passing))
+    placed_same pedge= x f = some-line last ends ∙ sym (op-first s above passing)
     placed_same make= x f = under-code 1
-    placed_same arm= x f = under-make x f
+    placed_same arm= x f = under-make last ends x f
     placed_same put= x f = under-code 2
     placed_same drop= x f = under-code 3
     placed_same cut= x f = under-code 4
     placed_same group= x f = under-code 5
 
-    -- none is missing at the end: code 0, or an action line
-    pub complete-same : is_complete last code ≡ (rule_format s).complete above
-    unfolding is_complete rule_format
-    complete-same =
-        let late = leb (turn make= + first_rule_kind) last.line.kind in
-        ap (λ b. b && (eqb code 0 || late)) some-line
-        ∙ ⊎_elim (λ e. subst (λ (ls : RuleLines). (ltb 0 (length ls) && (eqb code 0 || late)) ≡ (rule_format s).complete ls) (sym e) refl)
-        (λ q.
-        let coded : eqb code 0 ≡ has_code 0 above = sym (code-above 0 ∙ ap (λ b. b && eqb code 0) (some-above q)) in
-        rw (some-above q) (ap₂ ◌||◌ coded (sym (acting s above passing last q tabled))))
-        ends
-
     -- the verdict told from the rows is the definition's
     pub line-verdict : scheme_listed s ≡ true → (k : RuleKey) (x : ℕ) → LineInForm (rule_format s) (row_line k x)
-        → verdict (suc (length above)) (follows rule_form (get_last? above) (row_line k x) && placed last code k x)
+        → verdict (suc (length above)) (follows rule_form (last_of above) (row_line k x) && placed last code k x)
         (full (rule_form k).most (lines_above p (length t.parts) k)) (line_checks s p t.head k x)
         ≡ verdict_of (rule_format s) above (row_line k x)
     unfolding rule_format
@@ -251,12 +242,12 @@ module _ (s : Scheme) (above : RuleLines) (passing : Passing (rule_format s) abo
         let line = suc (length above) in
         let l = row_line k x in
         let here = in_place (rule_format s) above l in
-        let stands : here ≡ true → (follows rule_form (get_last? above) l ≡ true) × ((rule_checks s above k (fields k x)).placed ≡ true) =
-        (both (follows rule_form (get_last? above) l) (rule_checks s above k (fields k x)).placed).0 in
+        let stands : here ≡ true → (follows rule_form (last_of above) l ≡ true) × ((rule_checks s above k (fields k x)).placed ≡ true) =
+        (both (follows rule_form (last_of above) l) (rule_checks s above k (fields k x)).placed).0 in
         let agrees : Pattern → Type 0 = λ g. Agree (line_checks s g t.head k x) (rule_checks s above k (fields k x)) in
         let told = full (rule_form k).most (lines_above p (length t.parts) k) in
         ap (λ b. verdict line b told (line_checks s p t.head k x))
-        (placed-agrees (follows rule_form (get_last? above) l) (placed last code k x) (rule_checks s above k (fields k x)).placed (placed_same k x))
+        (placed-agrees (follows rule_form (last_of above) l) (placed last code k x) (rule_checks s above k (fields k x)).placed (placed_same k x))
         ∙ crowded-agrees line here told (crowded (rule_format s) above l) (line_checks s p t.head k x) (λ e. crowded-same k (fields k x) (stands e).1)
         ∙ verdict-agrees line here (crowded (rule_format s) above l) (line_checks s p t.head k x) (rule_checks s above k (fields k x))
         (λ e. subst agrees pattern-above (checks-agree listed k x i (stands e).0 (stands e).1))

@@ -1,45 +1,48 @@
--- What a line of a rule text adds, and the room for it, by the number of its kind, as the code's tests go: at each of the nine kinds both are the
--- same by computation.
-use Rattle.std.specs.Prelude.{ℕ, ◌≤◌, ◌<◌, ◌≡◌, Bool, ◌||◌}
-use Rattle.std.proofs.Common.{arith, sym, ◌∙◌}
-use Rattle.std.proofs.Math.Path.{refl}
-use Rattle.std.proofs.Math.Bool.{true, cond}
+-- The room for what a line of a rule text adds, by its kind.
+use Rattle.std.specs.Prelude.{ℕ, ◌<◌, ◌≡◌, refl, ◌⊎◌, false}
+use Rattle.std.proofs.Common.{sym, ⊎_elim}
 use Rattle.std.proofs.lemmas.Bool.{false≢true}
-use Rattle.std.proofs.Math.Dec.{eqb}
 use Rattle.model.specs.Limits
 use Rattle.model.specs.Files.RuleText.{make=, arm=}
-use Rattle.forms.specs.Forms.{first_rule_kind, kind_count, rule_key}
+use Rattle.forms.specs.Forms.{of_drawing, rule_key}
+use Rattle.forms.specs.declared.LineKind.{LineKind}
+use Rattle.forms.specs.declared.LineKind.TheVariants.{Op, Pnode, Pedge, Make, Arm, Put, Drop, Cut, Group}
 use Rattle.text.specs.declared.lines.Line.{Line}
 use Rattle.graph.specs.declared.rule.PackedRule.{PackedRule}
-use Rattle.rule_lines.specs.Laws.RuleKinds.{at-rule-kind}
-use Rattle.rules.specs.Rules.{Room, has_parts, Parts, with}
+use Rattle.rules.specs.Rules.{Room, Parts, with}
 
-module _ (kind : ℕ) (h : first_rule_kind ≤ kind) (k : kind < kind_count) where
-  pub has-parts-by-kind : has_parts (rule_key kind) ≡ (eqb kind 9 || eqb kind 10 || eqb kind 12)
-  unfolding has_parts
-  has-parts-by-kind =
-      at-rule-kind (λ n. has_parts (rule_key n) ≡ (eqb n 9 || eqb n 10 || eqb n 12)) refl refl refl refl refl refl refl refl refl kind h k
+-- an action line of which there may be several
+abbrev pub IsPart : LineKind → Type 0
+IsPart kind = (kind ≡ Arm) ⊎ ((kind ≡ Put) ⊎ (kind ≡ Cut))
 
-  pub action-line-added : (t : Parts) (row : ℕ) → 8 ≤ kind
-      → with t (rule_key kind) row ≡ cond (has_parts (rule_key kind)) (with t arm= row) (with t make= row)
-  unfolding has_parts with
-  action-line-added t row =
-      at-rule-kind (λ n. 8 ≤ n → with t (rule_key n) row ≡ cond (has_parts (rule_key n)) (with t arm= row) (with t make= row))
-      (λ a. absurd (omega arith)) (λ a. absurd (omega arith)) (λ a. absurd (omega arith))
-      (λ a. refl) (λ a. refl) (λ a. refl) (λ a. refl) (λ a. refl) (λ a. refl) kind h k
-
--- # Room for one more
 module _ (r : PackedRule) (l : Line) (q : Room r l) where
-  pub room-for-node : l.kind ≡ 6 → r.pattern.order < Limits.pattern_nodes
+  pub room-for-code : l.kind ≡ Op → l.row < 6
+  room-for-code e = rw e at q.room
+
+  pub room-for-node : l.kind ≡ Pnode → r.pattern.order < Limits.pattern_nodes
   room-for-node e = rw e at q.room
 
-  pub room-for-edge : l.kind ≡ 7 → r.pattern.size < Limits.pattern_edges
+  pub room-for-edge : l.kind ≡ Pedge → r.pattern.size < Limits.pattern_edges
   room-for-edge e = rw e at q.room
 
-  pub room-for-part : {o : Bool} → o ≡ has_parts (rule_key l.kind) → o ≡ true → r.action.count < Limits.puts
-  unfolding has_parts
-  room-for-part several e =
-      at-rule-kind (λ n. Room r (record { kind = n; row = l.row }) → has_parts (rule_key n) ≡ true → r.action.count < Limits.puts)
-      (λ p t. absurd (false≢true t)) (λ p t. absurd (false≢true t)) (λ p t. absurd (false≢true t)) (λ p t. absurd (false≢true t))
-      (λ p t. p.room) (λ p t. p.room) (λ p t. absurd (false≢true t)) (λ p t. p.room) (λ p t. absurd (false≢true t))
-      l.kind q.kind q.tabled.kind q (sym several ∙ e)
+  pub room-for-part : IsPart l.kind → r.action.count < Limits.puts
+  room-for-part = ⊎_elim (λ e. rw e at q.room) (⊎_elim (λ e. rw e at q.room) (λ e. rw e at q.room))
+
+pub part-added : (t : Parts) (row : ℕ) (kind : LineKind) → IsPart kind → with t (rule_key kind) row ≡ with t arm= row
+unfolding with
+part-added t row kind = ⊎_elim (λ e. rw e) (⊎_elim (λ e. rw e) (λ e. rw e))
+
+-- a line of another kind stands once, and adds a head
+pub head-added : (t : Parts) (row : ℕ) (kind : LineKind) → of_drawing kind ≡ false → (kind ≡ Op → ⊥) → (kind ≡ Pnode → ⊥) → (kind ≡ Pedge → ⊥)
+    → (kind ≡ Arm → ⊥) → (kind ≡ Put → ⊥) → (kind ≡ Cut → ⊥) → with t (rule_key kind) row ≡ with t make= row
+unfolding with
+head-added t row Op h op pnode pedge arm put cut = absurd (op refl)
+head-added t row Pnode h op pnode pedge arm put cut = absurd (pnode refl)
+head-added t row Pedge h op pnode pedge arm put cut = absurd (pedge refl)
+head-added t row Make h op pnode pedge arm put cut = refl
+head-added t row Arm h op pnode pedge arm put cut = absurd (arm refl)
+head-added t row Put h op pnode pedge arm put cut = absurd (put refl)
+head-added t row Drop h op pnode pedge arm put cut = refl
+head-added t row Cut h op pnode pedge arm put cut = absurd (cut refl)
+head-added t row Group h op pnode pedge arm put cut = refl
+head-added t row _ h op pnode pedge arm put cut = absurd (false≢true (sym h))

@@ -1,6 +1,6 @@
 -- Rule texts by the rows of their lines: the rows of each key, and what stands with one line more.
 -- A row is taken apart into its line's numbers by arithmetic; the rest is by the keys.
-use Rattle.std.specs.Prelude.{ℕ, ◌/◌, ◌%◌, ◌^◌, ◌<◌, ◌≤◌, ◌≡◌, Bool, true, false, cond, List, [], ◌∷◌, ◌++◌, map, get_or, eqb}
+use Rattle.std.specs.Prelude.{ℕ, ◌/◌, ◌%◌, ◌^◌, ◌<◌, ◌≡◌, Bool, true, false, cond, List, [], ◌∷◌, ◌++◌, map, get_or, eqb}
 use Rattle.std.proofs.Common.{arith, ap₂, ◌∙◌, sym, append_assoc, append-nil, eqb-true}
 use Rattle.std.proofs.Math.Path.{refl, ap}
 use Rattle.std.proofs.lemmas.List.{map-append}
@@ -10,7 +10,7 @@ use Rattle.model.specs.Files.{Line, numbers_of}
 use Rattle.model.specs.Files.RuleText.{RuleKey, op=, pnode=, pedge=, make=, arm=, put=, drop=, cut=, group=, rule_form, RuleLines}
 use Rattle.model.proofs.Laws.Passing.{numbers-append}
 use Rattle.model.specs.Files.RuleText.{rule_keys}
-use Rattle.forms.specs.Forms.{rule_kind, first_rule_kind, rule_key}
+use Rattle.forms.specs.Forms.{rule_kind, of_drawing, rule_key}
 use Rattle.text.specs.Lines.{rule_line, Tabled}
 use Rattle.forms.specs.Laws.Kinds.{rule-kind}
 use Rattle.text.specs.declared.lines.Line.{Line as PackedLine}
@@ -57,10 +57,10 @@ row-fields group= x h =
 abbrev pub row_line : RuleKey → (row : ℕ) → Line RuleKey
 row_line k x = record { key = k; numbers = fields k x }
 
-pub line_row : (l : PackedLine) → Tabled l → first_rule_kind ≤ l.kind → rule_line l ≡ row_line (rule_key l.kind) l.row
+pub line_row : (l : PackedLine) → Tabled l → of_drawing l.kind ≡ false → rule_line l ≡ row_line (rule_key l.kind) l.row
 line_row l t h =
     let k = rule_key l.kind in
-    let e = rule-kind l.kind h t.kind in
+    let e = rule-kind l.kind h in
     let small : l.row < product (rule_kind k).rooms = rw e at t.row in
     ap (λ (ns : List ℕ). record { key = k; numbers = ns }) (ap (λ m. unrank m.rooms l.row) e ∙ row-fields k l.row small)
 
@@ -101,12 +101,12 @@ rows-with ls rows k x h j = numbers-append rule_form j ls (row_line k x ∷ []) 
 
 -- # What stands
 -- the last row, 0 if there is none
-abbrev pub last_of : List ℕ → ℕ
-last_of [] = 0
-last_of (x ∷ []) = x
-last_of (x ∷ y ∷ xs) = last_of (y ∷ xs)
+abbrev pub last_row : List ℕ → ℕ
+last_row [] = 0
+last_row (x ∷ []) = x
+last_row (x ∷ y ∷ xs) = last_row (y ∷ xs)
 
-last_snoc : (xs : List ℕ) (x : ℕ) → last_of (xs ++ (x ∷ [])) ≡ x
+last_snoc : (xs : List ℕ) (x : ℕ) → last_row (xs ++ (x ∷ [])) ≡ x
 last_snoc [] x = refl
 last_snoc (y ∷ []) x = refl
 last_snoc (y ∷ z ∷ xs) x = last_snoc (z ∷ xs) x
@@ -118,10 +118,10 @@ heads rows = rows make= ++ (rows drop= ++ rows group=)
 abbrev pub gathered : Rows → Parts
 gathered rows =
     record {
-      code = last_of (rows op=);
+      code = last_row (rows op=);
       nodes = rows pnode=;
       edges = rows pedge=;
-      head = last_of (heads rows);
+      head = last_row (heads rows);
       parts = rows arm= ++ (rows put= ++ rows cut=);
     }
 
@@ -143,8 +143,8 @@ module _ (rows : Rows) (x : ℕ) where
   abbrev holding : (head : ℕ) (parts : List ℕ) → Parts
   holding head parts = record { code = t.code; nodes = t.nodes; edges = t.edges; head = head; parts = parts }
 
-  headed : (hs : List ℕ) → hs ≡ heads rows ++ (x ∷ []) → holding x t.parts ≡ holding (last_of hs) t.parts
-  headed hs e = ap (λ h. holding h t.parts) (sym (last_snoc (heads rows) x) ∙ ap last_of (sym e))
+  headed : (hs : List ℕ) → hs ≡ heads rows ++ (x ∷ []) → holding x t.parts ≡ holding (last_row hs) t.parts
+  headed hs e = ap (λ h. holding h t.parts) (sym (last_snoc (heads rows) x) ∙ ap last_row (sym e))
 
   parted : (ps : List ℕ) → ps ≡ t.parts ++ (x ∷ []) → holding t.head (t.parts ++ (x ∷ [])) ≡ holding t.head ps
   parted ps e = ap (holding t.head) (sym e)

@@ -1,16 +1,6 @@
--- `runs::perform` meets its contract, kind by kind. Assumes nothing.
-use borrow.Author.Rules.{rules}
-use Rattle.runs.specs.Laws.Entries.{performs-open, performs-apply, performs-undo, performs-close}
+-- `runs::perform` meets its contract: the kind has the number, or the number is past the last. Assumes nothing.
+use Rattle.runs.specs.Laws.Entries.{kind-call}
 use Rattle.runs.proofs.perform.Goals as goal
 
-pub returns-then-kind-eq-OPEN : goal.returns-then-kind-eq-OPEN
-returns-then-kind-eq-OPEN c = search (performs-open, rules)
-
-pub returns-then-kind-eq-APPLY : goal.returns-then-kind-eq-APPLY
-returns-then-kind-eq-APPLY c = search (performs-apply, rules)
-
-pub returns-then-kind-eq-UNDO : goal.returns-then-kind-eq-UNDO
-returns-then-kind-eq-UNDO c = search (performs-undo, rules)
-
 pub returns : goal.returns
-returns c = search (performs-close, rules)
+returns c = rw (← kind-call c.args.kind c.args.text.now c.try_from.result c.try_from.ensures, ← c.unwrap_or.ensures) c.make.ensures

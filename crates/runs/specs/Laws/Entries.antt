@@ -1,6 +1,7 @@
 -- The entries of a list of calls, run one after another: what one more call leaves, and that nothing is left where the loop ends.
 -- By what is left: the calls from entry i on, whose texts begin at `from`.
-use Rattle.std.specs.Prelude.{ℕ, ◌+◌, ◌*◌, ◌/◌, ◌<◌, ◌≤◌, ◌≡◌, refl, Bool, true, false, ◌&&◌, List, [], ◌∷◌, ◌++◌, get_or, drop, ltb, leb}
+use Rattle.std.specs.Prelude.{ℕ, ◌+◌, ◌*◌, ◌/◌, ◌<◌, ◌≤◌, ◌≡◌, refl, Bool, true, false, ◌&&◌, List, [], ◌∷◌, ◌++◌, get_or, drop, ltb, leb, Result, Ok, Err}
+use Rattle.std.specs.Result.{result_unwrap_or}
 use Rattle.std.proofs.Common.{arith, add-one, ◌∙◌, append_assoc, append-nil, drop-drop, take_at, drop_at, take_all}
 use Rattle.std.proofs.Math.Path.{ap, sym, subst}
 use Rattle.std.proofs.Math.ListN.{get_or-eq_default, length, take, length-append, length-drop, drop_of_length-le}
@@ -16,40 +17,13 @@ use Rattle.session.specs.Chains.{Chain, ends, goes}
 use Rattle.session.specs.declared.Session.{Session}
 use Rattle.demands.proofs.Demand3.{demand-3}
 use Rattle.demands.proofs.Laws.Chains.{chain_runs}
-use Rattle.runs.specs.Handed.{kind_count, call_of, part, is_call, calls_from, calls_in, six_numbers, answer_room}
+use Rattle.runs.specs.declared.Kind.{Kind}
+use Rattle.runs.specs.declared.Kind.TheVariants as kind
+use Rattle.runs.specs.declared.UnknownKind.{UnknownKind}
+use Rattle.runs.specs.Handed.{kind_count, Decodes, call_for, call_of, part, is_call, calls_from, calls_in, six_numbers, answer_room}
 use Rattle.runs.specs.Runs.{Performs, Runs, goes_on, Answered, Running}
 use Rattle.runs.specs.declared.Performed.{Performed}
 use Rattle.runs.specs.Laws.Answers.{six-long}
-
--- # Whether an entry is a call
-module _ (kind from end texts : ℕ) where
-  pub kind-unknown : 3 < kind → false ≡ is_call kind from end texts
-  kind-unknown h = rw (le-ltb kind kind_count (omega arith))
-
-  pub ends-early : kind ≤ 3 → end < from → false ≡ is_call kind from end texts
-  ends-early k h = rw (lt-ltb kind kind_count (omega arith), lt-leb from end h)
-
-  pub ends-inside : kind ≤ 3 → from ≤ end → leb end texts ≡ is_call kind from end texts
-  ends-inside k h = rw (lt-ltb kind kind_count (omega arith), le-leb from end h)
-
--- # Whether the loop goes on
-module _ (kinds bounds : List ℕ) (texts room from i : ℕ) where
-  pub kinds-end : length kinds ≤ i → false ≡ goes_on kinds bounds texts room from i
-  unfolding goes_on
-  kinds-end h = rw (le-ltb i (length kinds) h)
-
-  pub bounds-end : i < length kinds → length bounds ≤ i → false ≡ goes_on kinds bounds texts room from i
-  unfolding goes_on
-  bounds-end hk h = rw (lt-ltb i (length kinds) hk, le-ltb i (length bounds) h)
-
-  pub room-ends : i < length kinds → i < length bounds → room ≤ i → false ≡ goes_on kinds bounds texts room from i
-  unfolding goes_on
-  room-ends hk hb h = rw (lt-ltb i (length kinds) hk, lt-ltb i (length bounds) hb, le-ltb i room h)
-
-  pub call-decides : i < length kinds → i < length bounds → i < room → {r : Bool} → r ≡ is_call (get_or kinds i 0) from (get_or bounds i 0) texts
-      → r ≡ goes_on kinds bounds texts room from i
-  unfolding goes_on
-  call-decides hk hb hr e = rw (lt-ltb i (length kinds) hk, lt-ltb i (length bounds) hb, lt-ltb i room hr) e
 
 -- what it goes on for
 pub record Going (kinds bounds : List ℕ) (texts room from i : ℕ) : Type 0 where
@@ -91,23 +65,14 @@ first-fails true true false d f g h k e = h refl
 first-fails true true true d f g h k e = k refl refl e
 
 -- # One call
-module _ (kind : ℕ) (text : List ℕ) {s : Session} {p : Performed} where
-  pub performs-open : kind ≡ 0 → Performs (Open text) s p → Performs (call_of kind text) s p
-  unfolding call_of
-  performs-open e h = rw e h
-
-  pub performs-apply : kind ≡ 1 → Performs (Apply text) s p → Performs (call_of kind text) s p
-  unfolding call_of
-  performs-apply e h = rw e h
-
-  pub performs-undo : kind ≡ 2 → Performs Undo s p → Performs (call_of kind text) s p
-  unfolding call_of
-  performs-undo e h = rw e h
-
-  pub performs-close : (kind ≡ 0 → ⊥) → (kind ≡ 1 → ⊥) → (kind ≡ 2 → ⊥) → Performs Close s p → Performs (call_of kind text) s p
-  unfolding call_of
-  performs-close a b c h =
-      subst (λ call. Performs call s p) (sym (get_or-eq_default (Open text ∷ Apply text ∷ Undo ∷ []) Close {n = kind} (omega arith))) h
+pub kind-call : (number : ℕ) (text : List ℕ) (r : Result Kind UnknownKind) → Decodes number r
+    → call_for (result_unwrap_or r kind.Close) text ≡ call_of number text
+unfolding call_of
+kind-call number text (Ok kind.Open) e = rw (← e)
+kind-call number text (Ok kind.Apply) e = rw (← e)
+kind-call number text (Ok kind.Undo) e = rw (← e)
+kind-call number text (Ok kind.Close) e = rw (← e)
+kind-call number text (Err u) e = sym (get_or-eq_default (Open text ∷ Apply text ∷ Undo ∷ []) Close {n = number} (omega (arith, e.1)))
 
 pub answered : {call : Call} {s : Session} {p : Performed} {from : ℕ} {before after : List ℕ} → Performs call s p
     → WritesFrom p.numbers from before (from + answer_room) after → Answered call s from before p.session after

@@ -1,11 +1,6 @@
--- `serving::served_key` meets its contract: the key holds the targets by the arms before `i`. Assumes nothing.
-use Prim.Native.Nat.{◌-◌}
-use lib.ListN.{length}
+-- `serving::served_key` meets its contract: the key holds the targets by the arms before the index. Assumes nothing.
 use Rattle.serving.specs.Laws.Serving.{Gathered}
 use Rattle.serving.proofs.served_key.Given as goal
 
-abbrev pub invariant-loop-i : goal.invariant-loop-i
-invariant-loop-i l = Gathered l.edges l.number l.arms l.i l.key
-
-abbrev pub decreases-loop-i : goal.decreases-loop-i
-decreases-loop-i l = length l.arms - l.i
+abbrev pub invariant-loop-arm : goal.invariant-loop-arm
+invariant-loop-arm l = Gathered l.edges l.number l.arms.parts.now l.arm-index l.key

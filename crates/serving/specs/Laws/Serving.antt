@@ -1,12 +1,11 @@
 -- What nodes serve, as code finds it: the first edge of a run stands where its least key would; all else goes by what is left of the list that code
 -- walks.
-use Rattle.std.specs.Prelude.{ℕ, zero, suc, ◌+◌, ◌*◌, ◌/◌, ◌%◌, ◌^◌, ◌<◌, ◌≤◌, ◌≡◌, refl, Bool, List, [], ◌∷◌, drop}
+use Rattle.std.specs.Prelude.{ℕ, zero, suc, ◌+◌, ◌*◌, ◌/◌, ◌%◌, ◌^◌, ◌<◌, ◌≤◌, ◌≡◌, refl, Bool, List, [], ◌∷◌, drop, Option, None, Some, option_map}
 use native.Mathlib.Omega.{arith}
 use Rattle.std.proofs.Common.{le_refl, lt_of_lt_of_le, ◌∙◌, pow_mono}
 use Rattle.std.proofs.Math.Numerals.{add-one}
 use Rattle.std.proofs.Math.Path.{ap, sym}
 use Rattle.std.proofs.Math.Bool.{true, false}
-use Rattle.std.proofs.Math.Option.{Option, none, some}
 use Rattle.std.proofs.Math.ListN.{length, drop_of_length-le}
 use Rattle.std.proofs.Math.Seq.{drop-cons}
 use Rattle.std.proofs.Math.Pow.{pow-add}
@@ -17,20 +16,17 @@ use Rattle.lists.proofs.Laws.Places.{at_place}
 use Rattle.model.specs.Limits
 use Rattle.keys.specs.Keys.{keys_rise, place_of}
 use Rattle.keys.specs.Laws.Keys.{place-above, place-below}
-use Rattle.graph.specs.declared.instance.Found.{Found}
-use Rattle.graph.specs.declared.instance.Found.TheVariants.{At, Nothing}
-use Rattle.notes.specs.Notes.{note, note_all, noted, Kept, Notes}
-use Rattle.graph.specs.Packed.{found_number}
-use Rattle.serving.specs.Served.{target_of, first_target, served_key, served_keys}
+use Rattle.notes.specs.Notes.{note, note_all}
+use Rattle.serving.specs.Served.{first_target, served_key, served_keys}
 
 -- # The first edge of a run
 finds-at : (p : ℕ → Bool) (ks : List ℕ) (i : ℕ) → i < length ks → p (ks ! i) ≡ true → ((j : ℕ) → j < i → p (ks ! j) ≡ false)
-    → find p ks ≡ some (ks ! i)
+    → find p ks ≡ Some (ks ! i)
 finds-at p [] i l h b = absurd (omega arith)
 finds-at p (x ∷ ks) zero l h b = rw h
 finds-at p (x ∷ ks) (suc i) l h b = rw (b 0 (omega arith)) (finds-at p ks i (omega arith) h (λ j m. b (suc j) (omega arith)))
 
-finds-nowhere : (p : ℕ → Bool) (ks : List ℕ) → ((j : ℕ) → j < length ks → p (ks ! j) ≡ false) → find p ks ≡ none
+finds-nowhere : (p : ℕ → Bool) (ks : List ℕ) → ((j : ℕ) → j < length ks → p (ks ! j) ≡ false) → find p ks ≡ None
 finds-nowhere p [] b = refl
 finds-nowhere p (x ∷ ks) b = rw (b 0 (omega arith)) (finds-nowhere p ks (λ j m. b (suc j) (omega arith)))
 
@@ -58,11 +54,12 @@ module _ (edges : List ℕ) (number name at : ℕ) (rise : keys_rise edges ≡ t
       let b : place_of least edges ≤ j = place-below edges least rise j m (omega arith) in
       omega arith)
 
-  pub target_found : at < length edges → edges ! at / 2 ^ 16 ≡ (number * 2 ^ 22 + name * 2 ^ 16) / 2 ^ 16
-      → some (edges ! at % 2 ^ 16) ≡ first_target edges number name
+  pub target_found : (edge : ℕ) → edge ≡ edges ! at → at < length edges → edge / 2 ^ 16 ≡ (number * 2 ^ 22 + name * 2 ^ 16) / 2 ^ 16
+      → Some (edge % 2 ^ 16) ≡ first_target edges number name
   unfolding first_target
-  target_found l e =
-      sym (ap target_of (finds-at in_run edges at l
+  target_found edge same l e =
+      ap (λ k. Some (k % 2 ^ 16)) same
+      ∙ sym (ap (option_map (λ k. k % 2 ^ 16)) (finds-at in_run edges at l
       (eq-eqb (edges ! at / 2 ^ 16) (number * 2 ^ 6 + name) (omega arith))
       (λ j m. before-run j m (omega arith))))
 
@@ -80,22 +77,23 @@ module _ (edges : List ℕ) (number name at : ℕ) (rise : keys_rise edges ≡ t
           let b : edges ! at ≤ edges ! j = later-above edges rise at j l m in
           h (omega arith)
 
-  pub target-other : at < length edges → (edges ! at / 2 ^ 16 ≡ (number * 2 ^ 22 + name * 2 ^ 16) / 2 ^ 16 → ⊥) → none ≡ first_target edges number name
+  pub target-other : (edge : ℕ) → edge ≡ edges ! at → at < length edges → (edge / 2 ^ 16 ≡ (number * 2 ^ 22 + name * 2 ^ 16) / 2 ^ 16 → ⊥)
+      → None ≡ first_target edges number name
   unfolding first_target
-  target-other l h = sym (ap target_of (finds-nowhere in_run edges (λ j m. go j m (ltb j at) refl)))
+  target-other edge same l h = sym (ap (option_map (λ k. k % 2 ^ 16)) (finds-nowhere in_run edges (λ j m. go j m (ltb j at) refl)))
     where
       go : (j : ℕ) → j < length edges → (t : Bool) → ltb j at ≡ t → in_run (edges ! j) ≡ false
       go j m true q = before-run j (ltb-true j at q) m
-      go j m false q = after_run h j (ltb-false j at q) m
+      go j m false q = after_run (λ e. h (ap (λ k. k / 2 ^ 16) same ∙ e)) j (ltb-false j at q) m
 
-  pub target_past : length edges ≤ at → none ≡ first_target edges number name
+  pub target_past : length edges ≤ at → None ≡ first_target edges number name
   unfolding first_target
-  target_past l = sym (ap target_of (finds-nowhere in_run edges (λ j m. before-run j (omega arith) m)))
+  target_past l = sym (ap (option_map (λ k. k % 2 ^ 16)) (finds-nowhere in_run edges (λ j m. before-run j (omega arith) m)))
 
 -- # The key of what a node serves
-target_small : (o : Option ℕ) (t : ℕ) → target_of o ≡ some t → t < 2 ^ 16
-target_small none t e = let z : ◌≡◌ {A = ℕ} 0 1 = cc in absurd (omega arith)
-target_small (some k) t e = let q : k % 2 ^ 16 ≡ t = cc in omega arith
+target_small : (o : Option ℕ) (t : ℕ) → option_map (λ k. k % 2 ^ 16) o ≡ Some t → t < 2 ^ 16
+target_small None t e = let z : ◌≡◌ {A = ℕ} 0 1 = cc in absurd (omega arith)
+target_small (Some k) t e = let q : k % 2 ^ 16 ≡ t = cc in omega arith
 
 -- the targets by the first i arms are in the key
 pub record Gathered (edges : List ℕ) (number : ℕ) (arms : List ℕ) (i key : ℕ) : Type 0 where
@@ -106,9 +104,6 @@ pub name-small : (arms : List ℕ) (i : ℕ) → Below (2 ^ 22) arms → i < len
 name-small arms i below l = omega (arith, below (arms ! i) (at_place arms i 0 l))
 
 module _ (edges : List ℕ) (number : ℕ) (arms : List ℕ) where
-  pub gathered_none : Gathered edges number arms 0 0
-  gathered_none = record { low = omega arith; leaves = refl }
-
   module _ (i key : ℕ) (h : Gathered edges number arms i key) where
     gathered-low : i < length arms → length arms ≤ Limits.arms → key < 2 ^ 48
     gathered-low l few = let three : 16 * i ≤ 48 = omega arith in lt_of_lt_of_le h.low (pow_mono three)
@@ -116,29 +111,30 @@ module _ (edges : List ℕ) (number : ℕ) (arms : List ℕ) where
     pub shifted_fits : i < length arms → length arms ≤ Limits.arms → key * 2 ^ 16 < 2 ^ 64
     shifted_fits l few = omega (arith, gathered-low l few)
 
-    module _ (r : Found) (l : i < length arms) (found : found_number r ≡ first_target edges number (arms ! i / 2 ^ 16)) where
-      gathered-target : (t : ℕ) → r ≡ At t → t < 2 ^ 16
-      unfolding first_target
-      gathered-target t e = target_small (find (λ k. eqb (k / 2 ^ 16) (number * 2 ^ 6 + arms ! i / 2 ^ 16)) edges) t (sym found ∙ ap found_number e)
+    module _ (l : i < length arms) where
+      module _ (t : ℕ) (found : Some t ≡ first_target edges number (arms ! i / 2 ^ 16)) where
+        gathered-target : t < 2 ^ 16
+        unfolding first_target
+        gathered-target = target_small (find (λ k. eqb (k / 2 ^ 16) (number * 2 ^ 6 + arms ! i / 2 ^ 16)) edges) t (sym found)
 
-      pub joined-fits : length arms ≤ Limits.arms → (t : ℕ) → r ≡ At t → key * 2 ^ 16 + t < 2 ^ 64
-      joined-fits few t e = omega (arith, gathered-low l few, gathered-target t e)
+        pub joined-fits : length arms ≤ Limits.arms → key * 2 ^ 16 + t < 2 ^ 64
+        joined-fits few = omega (arith, gathered-low l few, gathered-target)
 
-      pub gathered-more : (t : ℕ) → r ≡ At t → Gathered edges number arms (i + 1) (key * 2 ^ 16 + t)
+        pub gathered-more : Gathered edges number arms (i + 1) (key * 2 ^ 16 + t)
+        unfolding served_key
+        gathered-more =
+            let p : 16 * (i + 1) ≡ 16 * i + 16 = omega arith in
+            let q : 2 ^ (16 * (i + 1)) ≡ 2 ^ (16 * i) * 2 ^ 16 = ap (λ (n : ℕ). 2 ^ n) p ∙ pow-add 2 (16 * i) 16 in
+            record {
+              low = omega (arith, gathered-target);
+              leaves = h.leaves ∙ rw (drop-cons arms i 0, add-one, ← found);
+            }
+
+      pub gathered-missed : None ≡ first_target edges number (arms ! i / 2 ^ 16) → None ≡ served_key edges number 0 arms
       unfolding served_key
-      gathered-more t e =
-          let p : 16 * (i + 1) ≡ 16 * i + 16 = omega arith in
-          let q : 2 ^ (16 * (i + 1)) ≡ 2 ^ (16 * i) * 2 ^ 16 = ap (λ (n : ℕ). 2 ^ n) p ∙ pow-add 2 (16 * i) 16 in
-          record {
-            low = omega (arith, gathered-target t e);
-            leaves = h.leaves ∙ rw (drop-cons arms i 0, add-one, ← found, e);
-          }
+      gathered-missed e = sym (h.leaves ∙ rw (drop-cons arms i 0, ← e))
 
-      pub gathered-missed : r ≡ Nothing → none ≡ served_key edges number 0 arms
-      unfolding served_key
-      gathered-missed e = sym (h.leaves ∙ rw (drop-cons arms i 0, ← found, e))
-
-    pub gathered-all : length arms ≤ i → some key ≡ served_key edges number 0 arms
+    pub gathered-all : length arms ≤ i → Some key ≡ served_key edges number 0 arms
     unfolding served_key
     gathered-all l = sym (h.leaves ∙ rw (drop_of_length-le arms))
 
@@ -147,42 +143,26 @@ pub number_small : (nodes : List ℕ) (i : ℕ) → Below (2 ^ 54) nodes → i <
 number_small nodes i below l = omega (arith, below (nodes ! i) (at_place nodes i 0 l))
 
 -- what the nodes before i serve is noted
-pub record Serving (class : ℕ) (arms edges nodes before : List ℕ) (i : ℕ) (notes : List ℕ) : Type 0 where
-  pub kept : Kept notes
-  pub left : note_all (noted notes) (served_keys class arms edges (drop i nodes)) ≡ note_all (noted before) (served_keys class arms edges nodes)
-
 module _ (class : ℕ) (arms edges nodes before : List ℕ) where
-  pub serving-none : Kept before → Serving class arms edges nodes before 0 before
-  serving-none k = record { kept = k; left = refl }
+  abbrev pub Serving : (i : ℕ) (log : List ℕ) → Type 0
+  Serving i log = note_all log (served_keys class arms edges (drop i nodes)) ≡ note_all before (served_keys class arms edges nodes)
 
-  module _ (i : ℕ) (notes : List ℕ) (h : Serving class arms edges nodes before i notes) where
+  module _ (i : ℕ) (log : List ℕ) (h : Serving i log) where
     module _ (l : i < length nodes) where
-      pub serving-other : (nodes ! i / 2 ^ 32 % 2 ^ 6 ≡ class → ⊥) → Serving class arms edges nodes before (i + 1) notes
+      pub serving-other : (nodes ! i / 2 ^ 32 % 2 ^ 6 ≡ class → ⊥) → Serving (i + 1) log
       unfolding served_keys
-      serving-other d =
-          record {
-            kept = h.kept;
-            left = sym (rw (add-one, drop-cons nodes i 0, ne_eqb (nodes ! i / 2 ^ 32 % 2 ^ 6) class d)) ∙ h.left;
-          }
+      serving-other d = sym (rw (add-one, drop-cons nodes i 0, ne_eqb (nodes ! i / 2 ^ 32 % 2 ^ 6) class d)) ∙ h
 
-      module _ (same : nodes ! i / 2 ^ 32 % 2 ^ 6 ≡ class) (r : Found) (found : found_number r ≡ served_key edges (nodes ! i / 2 ^ 38) 0 arms) where
-        pub serving-nothing : r ≡ Nothing → Serving class arms edges nodes before (i + 1) notes
+      module _ (same : nodes ! i / 2 ^ 32 % 2 ^ 6 ≡ class) where
+        pub serving-nothing : None ≡ served_key edges (nodes ! i / 2 ^ 38) 0 arms → Serving (i + 1) log
         unfolding served_keys
-        serving-nothing e =
-            record {
-              kept = h.kept;
-              left = sym (rw (add-one, drop-cons nodes i 0, eq-eqb (nodes ! i / 2 ^ 32 % 2 ^ 6) class same, ← found, e)) ∙ h.left;
-            }
+        serving-nothing e = sym (rw (add-one, drop-cons nodes i 0, eq-eqb (nodes ! i / 2 ^ 32 % 2 ^ 6) class same, ← e)) ∙ h
 
-        pub serving-key : (key : ℕ) → r ≡ At key → (after : List ℕ) → Notes (note (noted notes) key) after
-            → Serving class arms edges nodes before (i + 1) after
+        pub serving-key : (key : ℕ) → Some key ≡ served_key edges (nodes ! i / 2 ^ 38) 0 arms → (after : List ℕ) → after ≡ note log key
+            → Serving (i + 1) after
         unfolding served_keys
-        serving-key key e after m =
-            record {
-              kept = m.kept;
-              left = rw m.holds (sym (rw (add-one, drop-cons nodes i 0, eq-eqb (nodes ! i / 2 ^ 32 % 2 ^ 6) class same, ← found, e)) ∙ h.left);
-            }
+        serving-key key e after m = rw m (sym (rw (add-one, drop-cons nodes i 0, eq-eqb (nodes ! i / 2 ^ 32 % 2 ^ 6) class same, ← e)) ∙ h)
 
-    pub serving-all : length nodes ≤ i → Notes (note_all (noted before) (served_keys class arms edges nodes)) notes
+    pub serving-all : length nodes ≤ i → log ≡ note_all before (served_keys class arms edges nodes)
     unfolding served_keys
-    serving-all l = record { kept = h.kept; holds = rw drop_of_length-le at h.left }
+    serving-all l = rw drop_of_length-le at h

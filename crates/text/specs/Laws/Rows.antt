@@ -1,5 +1,5 @@
 -- The row of a line's numbers, number by number: the numbers that are read, and the limits, rooms and pieces that are left, give the whole row.
-use Rattle.std.specs.Prelude.{ℕ, suc, ◌+◌, ◌*◌, ◌-◌, ◌^◌, ◌<◌, ◌≤◌, ◌≡◌, refl, Bool, true, false, cond, ◌&&◌, List, [], ◌∷◌, map, take, drop}
+use Rattle.std.specs.Prelude.{ℕ, suc, ◌+◌, ◌*◌, ◌-◌, ◌^◌, ◌<◌, ◌≤◌, ◌≡◌, refl, Bool, true, false, cond, ◌&&◌, List, [], ◌∷◌, map, take, drop, Option, None, Some}
 use Rattle.std.proofs.Math.Nat.{mul_assoc}
 use Rattle.std.proofs.Common.{mul-le-mul_right, le-mul_of_pos_right, add-one, ap₂, ◌∙◌, length-drop, drop_of_length-le, take_all, drop-drop, lt-ltb, le-ltb, ltb-true, ltb-false}
 use native.Mathlib.Omega.{arith}
@@ -15,17 +15,16 @@ use Rattle.lists.proofs.Laws.Lists.{both}
 use Rattle.lists.proofs.Laws.Radix.{product-left}
 use Rattle.model.specs.Files.{in_form}
 use Rattle.numerals.specs.Scan.{up_to, numeral_below}
-use Rattle.forms.specs.Forms.{kind_count, kind_at, packed_form}
+use Rattle.forms.specs.Forms.{kind_of, packed_form}
 use Rattle.text.specs.Lines.{row_in}
 use Rattle.numerals.specs.Laws.Scan.{up_to-bound, pieces-up-to, pieces_whole}
 use Rattle.forms.specs.Laws.Kinds.{kind-roomy, padded-at, form-room}
 use Rattle.forms.specs.declared.Form.{Form as PackedForm}
-use Rattle.numerals.specs.declared.scan.Numeral.{Numeral}
-use Rattle.numerals.specs.declared.scan.Numeral.TheVariants.{Is, Malformed}
+use Rattle.forms.specs.declared.LineKind.{LineKind}
 
 -- the row whose numbers so far make `row`, where these limits, rooms and pieces are left
-unfoldable pub row_left : (row : ℕ) (below rooms : List ℕ) → List (List ℕ) → Numeral
-row_left row below rooms ts = cond (in_form below ts) (Is (row * product rooms + rank rooms (map value ts))) Malformed
+unfoldable pub row_left : (row : ℕ) (below rooms : List ℕ) → List (List ℕ) → Option ℕ
+row_left row below rooms ts = cond (in_form below ts) (Some (row * product rooms + rank rooms (map value ts))) None
 
 -- the pieces from a place of the text on: none past its end, where the last piece ended
 unfoldable pub pieces_from : ℕ → List ℕ → List (List ℕ)
@@ -33,25 +32,25 @@ pieces_from at s = cond (ltb (length s) at) [] (pieces 44 (drop at s))
 
 -- # A number and its piece
 -- what a test decides tells the test
-pub tested-is : (u : Bool) (x v : ℕ) → cond u (Is x) Malformed ≡ Is v → (u ≡ true) × (x ≡ v)
+pub tested-is : (u : Bool) (x v : ℕ) → cond u (Some x) None ≡ Some v → (u ≡ true) × (x ≡ v)
 tested-is true x v h = (refl, cc)
 tested-is false x v h = let z : ◌≡◌ {A = ℕ} 0 1 = cc in absurd (omega arith)
 
-pub tested-not : (u : Bool) (x : ℕ) → cond u (Is x) Malformed ≡ Malformed → u ≡ false
+pub tested-not : (u : Bool) (x : ℕ) → cond u (Some x) None ≡ None → u ≡ false
 tested-not true x h = let z : ◌≡◌ {A = ℕ} 0 1 = cc in absurd (omega arith)
 tested-not false x h = refl
 
 module _ (b : ℕ) (t : List ℕ) where
-  numeral-is : (v : ℕ) → numeral_below b t ≡ Is v → ((is_numeral t && ltb (value t) b) ≡ true) × (value t ≡ v)
+  numeral-is : (v : ℕ) → numeral_below b t ≡ Some v → ((is_numeral t && ltb (value t) b) ≡ true) × (value t ≡ v)
   unfolding numeral_below
   numeral-is v h = tested-is (is_numeral t && ltb (value t) b) (value t) v h
 
-  numeral-not : numeral_below b t ≡ Malformed → (is_numeral t && ltb (value t) b) ≡ false
+  numeral-not : numeral_below b t ≡ None → (is_numeral t && ltb (value t) b) ≡ false
   unfolding numeral_below
   numeral-not h = tested-not (is_numeral t && ltb (value t) b) (value t) h
 
   module _ (row r : ℕ) (bs rs : List ℕ) (ts : List (List ℕ)) where
-    left-more : (v : ℕ) → numeral_below b t ≡ Is v → row_left row (b ∷ bs) (r ∷ rs) (t ∷ ts) ≡ row_left (row * r + v) bs rs ts
+    left-more : (v : ℕ) → numeral_below b t ≡ Some v → row_left row (b ∷ bs) (r ∷ rs) (t ∷ ts) ≡ row_left (row * r + v) bs rs ts
     unfolding row_left
     left-more v h =
         let n = numeral-is v h in
@@ -60,7 +59,7 @@ module _ (b : ℕ) (t : List ℕ) where
         omega (arith, mul_assoc row r p, ap (λ m. m * p) n.1) in
         rw (n.0, ranked)
 
-    left_not : numeral_below b t ≡ Malformed → row_left row (b ∷ bs) (r ∷ rs) (t ∷ ts) ≡ Malformed
+    left_not : numeral_below b t ≡ None → row_left row (b ∷ bs) (r ∷ rs) (t ∷ ts) ≡ None
     unfolding row_left
     left_not h = rw (numeral-not h)
 
@@ -101,25 +100,23 @@ pieces-next s at n h found = pieces-here s at h ∙ go (ltb (at + n) (length s))
 
 -- # Reading the row
 -- i numbers of the line are read, and the next is at `at`. What is left has room under 2 ^ 54, so that the row never wraps
-pub record Rowed (kind : ℕ) (form : PackedForm) (s : List ℕ) (row at i : ℕ) : Type 0 where
-  pub known : kind < kind_count
-  pub made : form ≡ packed_form (kind_at kind)
+pub record Rowed (kind : LineKind) (form : PackedForm) (s : List ℕ) (row at i : ℕ) : Type 0 where
+  pub made : form ≡ packed_form (kind_of kind)
   pub counted : i ≤ form.numbers
   pub few : form.numbers ≤ 4
   pub reached : at ≤ length s + 1
-  pub room : (row + 1) * product (drop i (kind_at kind).rooms) ≤ 2 ^ 54
-  pub left : row_in kind s ≡ row_left row (drop i (kind_at kind).form.below) (drop i (kind_at kind).rooms) (pieces_from at s)
+  pub room : (row + 1) * product (drop i (kind_of kind).rooms) ≤ 2 ^ 54
+  pub left : row_in kind s ≡ row_left row (drop i (kind_of kind).form.below) (drop i (kind_of kind).rooms) (pieces_from at s)
 
-module _ {kind : ℕ} {form : PackedForm} {s : List ℕ} where
-  pub rowed-none : kind < kind_count → form ≡ packed_form (kind_at kind) → Rowed kind form s 0 0 0
+module _ {kind : LineKind} {form : PackedForm} {s : List ℕ} where
+  pub rowed-none : form ≡ packed_form (kind_of kind) → Rowed kind form s 0 0 0
   unfolding packed_form row_in row_left
-  rowed-none h made =
-      let k = kind-roomy kind h in
-      let numbers : form.numbers ≡ length (kind_at kind).form.below = ap (λ f. f.numbers) made in
-      let ranked = rank (kind_at kind).rooms (map value (pieces 44 s)) in
-      let nothing_read : 0 * product (kind_at kind).rooms + ranked ≡ ranked = omega arith in
+  rowed-none made =
+      let k = kind-roomy kind in
+      let numbers : form.numbers ≡ length (kind_of kind).form.below = ap (λ f. f.numbers) made in
+      let ranked = rank (kind_of kind).rooms (map value (pieces 44 s)) in
+      let nothing_read : 0 * product (kind_of kind).rooms + ranked ≡ ranked = omega arith in
       record {
-        known = h;
         made = made;
         counted = omega arith;
         few = omega (arith, k.few);
@@ -130,10 +127,10 @@ module _ {kind : ℕ} {form : PackedForm} {s : List ℕ} where
 
   module _ {row at i : ℕ} (r : Rowed kind form s row at i) where
     abbrev below : List ℕ
-    below = (kind_at kind).form.below
+    below = (kind_of kind).form.below
 
     abbrev rooms : List ℕ
-    rooms = (kind_at kind).rooms
+    rooms = (kind_of kind).rooms
 
     numbers : form.numbers ≡ length below
     unfolding packed_form
@@ -141,29 +138,29 @@ module _ {kind : ℕ} {form : PackedForm} {s : List ℕ} where
 
     pub row_small : row < 2 ^ 54
     row_small =
-        let some_left : 0 < product (drop i rooms) = product-left i 0 rooms (kind-roomy kind r.known).some-room in
+        let some_left : 0 < product (drop i rooms) = product-left i 0 rooms (kind-roomy kind).some-room in
         omega (arith, r.room, le-mul_of_pos_right (row + 1) some_left)
 
     -- a number is missing
-    pub row-short : i < form.numbers → length s < at → Malformed ≡ row_in kind s
+    pub row-short : i < form.numbers → length s < at → None ≡ row_in kind s
     unfolding row_left
     row-short h l = sym (r.left ∙ rw (pieces-past s at l, drop-cons below i 0 (omega (arith, numbers))))
 
     module _ (all : form.numbers ≤ i) where
       done : (drop i below ≡ []) × (drop i rooms ≡ [])
       done =
-          let k = kind-roomy kind r.known in
+          let k = kind-roomy kind in
           (drop_of_length-le below {i = i} (omega (arith, numbers)), drop_of_length-le rooms {i = i} (omega (arith, numbers, k.as_many)))
 
       -- the text ends with the last number, or goes on
-      pub row-end : at ≡ length s + 1 → Is row ≡ row_in kind s
+      pub row-end : at ≡ length s + 1 → Some row ≡ row_in kind s
       unfolding row_left
       row-end e =
           let none_left : (drop i below ≡ []) × (drop i rooms ≡ []) = done in
           let whole : row * 1 + 0 ≡ row = omega arith in
           sym (r.left ∙ rw (none_left.0, none_left.1, pieces-past s at (omega arith), whole))
 
-      pub row_more : (at ≡ length s + 1 → ⊥) → Malformed ≡ row_in kind s
+      pub row_more : (at ≡ length s + 1 → ⊥) → None ≡ row_in kind s
       unfolding row_left
       row_more e =
           let here : at ≤ length s = omega (arith, r.reached) in
@@ -176,13 +173,13 @@ module _ {kind : ℕ} {form : PackedForm} {s : List ℕ} where
       pub piece-within : at + n ≤ length s
       piece-within = next-within 44 s at n here at_piece
 
-      module _ (h : i < form.numbers) {m : Numeral} (read : m ≡ numeral_below (get_or form.below i 0) (take (at + n - at) (drop at s))) where
+      module _ (h : i < form.numbers) {m : Option ℕ} (read : m ≡ numeral_below (get_or form.below i 0) (take (at + n - at) (drop at s))) where
         limit : get_or form.below i 0 ≡ get_or below i 0
         unfolding packed_form
         limit = ap (λ f. get_or f.below i 0) r.made ∙ padded-at below i (omega (arith, numbers, r.few)) (omega (arith, numbers))
 
         width : get_or form.room i 0 ≡ get_or rooms i 0
-        width = form-room kind r.known r.made i h
+        width = form-room kind r.made i h
 
         numeral : numeral_below (get_or below i 0) (take n (drop at s)) ≡ m
         numeral =
@@ -192,7 +189,7 @@ module _ {kind : ℕ} {form : PackedForm} {s : List ℕ} where
         left_here : row_in kind s
             ≡ row_left row (get_or below i 0 ∷ drop (suc i) below) (get_or rooms i 0 ∷ drop (suc i) rooms) (take n (drop at s) ∷ pieces_from (at + n + 1) s)
         left_here =
-            let k = kind-roomy kind r.known in
+            let k = kind-roomy kind in
             r.left
             ∙ rw (
               drop-cons below i 0 (omega (arith, numbers)),
@@ -201,13 +198,13 @@ module _ {kind : ℕ} {form : PackedForm} {s : List ℕ} where
             )
 
         -- the next number is out of form, or is read
-        pub row-not : m ≡ Malformed → Malformed ≡ row_in kind s
+        pub row-not : m ≡ None → None ≡ row_in kind s
         row-not e = sym (left_here ∙ left_not (get_or below i 0) (take n (drop at s)) row (get_or rooms i 0) (drop (suc i) below) (drop (suc i) rooms)
             (pieces_from (at + n + 1) s) (numeral ∙ e))
 
-        pub rowed-next : {v : ℕ} → m ≡ Is v → Rowed kind form s (row * get_or form.room i 0 + v) (at + n + 1) (i + 1)
+        pub rowed-next : {v : ℕ} → m ≡ Some v → Rowed kind form s (row * get_or form.room i 0 + v) (at + n + 1) (i + 1)
         rowed-next {v} e =
-            let k = kind-roomy kind r.known in
+            let k = kind-roomy kind in
             let b = get_or below i 0 in
             let w = get_or rooms i 0 in
             let t = take n (drop at s) in
@@ -219,7 +216,6 @@ module _ {kind : ℕ} {form : PackedForm} {s : List ℕ} where
             let fits : row * w + v + 1 ≤ (row + 1) * w = omega arith in
             let room : (row * w + v + 1) * p ≤ 2 ^ 54 = omega (arith, mul-le-mul_right p fits, mul_assoc (row + 1) w p) in
             record {
-              known = r.known;
               made = r.made;
               counted = omega arith;
               few = r.few;

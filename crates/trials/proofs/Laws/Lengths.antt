@@ -10,6 +10,7 @@ use Rattle.model.specs.Files.{commas}
 use Rattle.model.specs.Refusals.{table_row}
 use Rattle.model.specs.declared.Counts.{Counts}
 use Rattle.model.specs.declared.Refusal.{Refusal}
+use Rattle.model.specs.declared.Row.{Row}
 use Rattle.printing.specs.Written.{line_of}
 use Rattle.trials.specs.Trials.{most_of_done, most_of_trial, refused_text, counts_text}
 
@@ -36,10 +37,10 @@ pub refused-fits : (n m : ℕ) (out : List ℕ) → n < 2 ^ 64 → m < 2 ^ 64 �
     → length (line_of (bytes "refused") (n ∷ m ∷ [])) ≤ length out
 refused-fits n m out hn hm room = omega (arith, line-short (bytes "refused") (n ∷ m ∷ []) (omega arith) (hn, (hm, tt)))
 
-pub refused-written : (x : Refusal) {n m : ℕ} → n ≡ (table_row x).number → m ≡ (table_row x).returned → {out : List ℕ} {taken : ℕ} {after : List ℕ}
-    → Writes (line_of (bytes "refused") (n ∷ m ∷ [])) out taken after → Writes (refused_text x) out taken after
+pub refused-written : (x : Refusal) {r : Row} → r ≡ table_row x → {out : List ℕ} {taken : ℕ} {after : List ℕ}
+    → Writes (line_of (bytes "refused") (r.number ∷ r.returned ∷ [])) out taken after → Writes (refused_text x) out taken after
 unfolding refused_text line_of
-refused-written x e f w = rw (← e, ← f) w
+refused-written x e w = rw (← e) w
 
 -- # The line done=
 done-short : (a b c d e : ℕ) → a < 2 ^ 64 → b < 2 ^ 64 → c < 2 ^ 64 → d < 2 ^ 64 → e < 2 ^ 64

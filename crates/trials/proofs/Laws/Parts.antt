@@ -1,6 +1,7 @@
 -- The text part by part: which is printed, by what each call answers and leaves, and that the parts, written one after another, are the text.
 -- What a call has accepted or refused is what the record accepts or refuses; a stored session's file is no longer than one that opens.
-use Rattle.std.specs.Prelude.{ℕ, ◌+◌, ◌-◌, ◌≤◌, ◌≡◌, Bool, List, [], ◌++◌, length, take, drop}
+use Rattle.std.specs.Prelude.{ℕ, ◌+◌, ◌-◌, ◌≤◌, ◌≡◌, Bool, List, [], ◌++◌, length, take, drop, Result, Ok, Err}
+use Rattle.std.specs.Result.{result_unwrap_or}
 use Rattle.std.proofs.Common.{arith, ◌∙◌, sym, length-append, length-drop}
 use Rattle.std.proofs.Math.Path.{refl, subst}
 use Rattle.std.proofs.Math.Bool.{true, false}
@@ -14,19 +15,15 @@ use Rattle.model.specs.Meaning.{most_of_drawing}
 use Rattle.model.specs.Trial.{saved_file, trial}
 use Rattle.model.proofs.Laws.Calls.{step-refuses, step-accepts, step-state, saves}
 use Rattle.model.proofs.Laws.Outcomes.{refused-not-accepted}
-use Rattle.model.specs.declared.ApplyAnswer.TheVariants as apply-answer
 use Rattle.model.specs.declared.Counts.{Counts}
-use Rattle.model.specs.declared.OpenAnswer.TheVariants as open-answer
+use Rattle.model.specs.declared.Opened.{Opened}
 use Rattle.model.specs.declared.Refusal.{Refusal}
-use Rattle.model.specs.declared.SaveAnswer.{SaveAnswer}
-use Rattle.model.specs.declared.SaveAnswer.TheVariants as save-answer
 use Rattle.graph.specs.Packed.{unpack_scheme, unpack_instance, unpack_history}
 use Rattle.writing.proofs.Laws.Stored.{stored_short}
 use Rattle.session.specs.Sessions.{unpack_session, StoredSession, NewSession, Stepped}
 use Rattle.session.proofs.Laws.Steps.{shut-is, open_is}
 use Rattle.session.specs.declared.Session.{Session}
-use Rattle.calls.specs.declared.ApplyLeft.{ApplyLeft}
-use Rattle.calls.specs.declared.OpenLeft.{OpenLeft}
+use Rattle.calls.specs.declared.Left as calls
 use Rattle.trials.specs.Trials.{most_of_done, most_of_trial, refused_text, counts_text, applied_text, apply_text}
 
 -- # What the record has accepted or refused
@@ -41,9 +38,9 @@ module _ {call : Call} {s after : Session} {buffer : List ℕ} where
   refuses-so st = (step-refuses (unpack_session s) call).0 (sym st.answers)
 
 -- # Open
-module _ {new : Session} (n : NewSession new) {job : List ℕ} {left : OpenLeft}
+module _ {new : Session} (n : NewSession new) {job : List ℕ} {left : calls.Left Opened}
     (st : Stepped (Open job) new (open_answer left.answer) [] left.session) (rule : List ℕ) {out : List ℕ} {taken : ℕ} {after : List ℕ} where
-  pub trial-opened : {classes names : ℕ} → left.answer ≡ open-answer.Opened classes names
+  pub trial-opened : {o : Opened} → left.answer ≡ Ok o
       → Writes (apply_text (unpack_session left.session) rule) out taken after → Writes (trial job rule) out taken after
   unfolding trial apply_text
   trial-opened e w =
@@ -51,7 +48,7 @@ module _ {new : Session} (n : NewSession new) {job : List ℕ} {left : OpenLeft}
       let opens = subst (λ r. accept r (Open job) ≡ accepted a.0) n.shut a.1 in
       rw (opens, a.3) w
 
-  pub trial-refused : {x : Refusal} → left.answer ≡ open-answer.Refused x
+  pub trial-refused : {x : Refusal} → left.answer ≡ Err x
       → Writes (refused_text x) out taken after → Writes (trial job rule) out taken after
   unfolding trial refused_text
   trial-refused {x} e w =
@@ -59,34 +56,31 @@ module _ {new : Session} (n : NewSession new) {job : List ℕ} {left : OpenLeft}
       rw refuses w
 
 -- # Apply
-module _ {s : Session} {rule : List ℕ} {left : ApplyLeft} (st : Stepped (Apply rule) s (apply_answer left.answer) [] left.session)
+module _ {s : Session} {rule : List ℕ} {left : calls.Left Counts} (st : Stepped (Apply rule) s (apply_answer left.answer) [] left.session)
     {out : List ℕ} {taken : ℕ} {after : List ℕ} where
-  pub apply-done : {n : Counts} → left.answer ≡ apply-answer.Applied n
+  pub apply-done : {n : Counts} → left.answer ≡ Ok n
       → Writes (applied_text n (unpack_session left.session)) out taken after → Writes (apply_text (unpack_session s) rule) out taken after
   unfolding apply_text applied_text counts_text
   apply-done e w =
       let a = accepts-so (rw e at st) in
       rw (a.1, a.2, a.3) w
 
-  pub apply-refused : {x : Refusal} → left.answer ≡ apply-answer.Refused x
+  pub apply-refused : {x : Refusal} → left.answer ≡ Err x
       → Writes (refused_text x) out taken after → Writes (apply_text (unpack_session s) rule) out taken after
   unfolding apply_text refused_text
   apply-refused e w = rw (refuses-so (rw e at st)) w
 
 -- # Save
--- how many bytes an answer says are written
-abbrev told : SaveAnswer → ℕ
-told (save-answer.Saved n) = n
-told (save-answer.Refused x) = 0
-
 module _ {text buffer after : List ℕ} where
-  told-saved : (r : SaveAnswer) → save_answer r ≡ accepted (saved (length text)) → after ≡ at_front text buffer → Writes text buffer (told r) after
-  told-saved (save-answer.Saved n) e b = record { count = cc; buffer = b }
-  told-saved (save-answer.Refused x) e b = absurd (refused-not-accepted e)
+  told-saved : (r : Result ℕ Refusal) → save_answer r ≡ accepted (saved (length text)) → after ≡ at_front text buffer
+      → Writes text buffer (result_unwrap_or r 0) after
+  told-saved (Ok n) e b = record { count = cc; buffer = b }
+  told-saved (Err x) e b = absurd (refused-not-accepted e)
 
-told-refused : {buffer after : List ℕ} {x : Refusal} (r : SaveAnswer) → save_answer r ≡ refused x → after ≡ buffer → Writes [] buffer (told r) after
-told-refused (save-answer.Saved n) e b = absurd (refused-not-accepted (sym e))
-told-refused (save-answer.Refused y) e b = record { count = refl; buffer = b }
+told-refused : {buffer after : List ℕ} {x : Refusal} (r : Result ℕ Refusal) → save_answer r ≡ refused x → after ≡ buffer
+    → Writes [] buffer (result_unwrap_or r 0) after
+told-refused (Ok n) e b = absurd (refused-not-accepted (sym e))
+told-refused (Err y) e b = record { count = refl; buffer = b }
 
 module _ {s : Session} (stored : StoredSession s) where
   abbrev file : List ℕ
@@ -99,27 +93,21 @@ module _ {s : Session} (stored : StoredSession s) where
       go true h = rw (open_is s h) (stored_short s.scheme s.instance stored.instance)
       go false h = rw (shut-is s h) (omega arith)
 
-  module _ {buffer : List ℕ} (room : most_of_drawing ≤ length buffer) (r : SaveAnswer) {after : List ℕ}
+  module _ {buffer : List ℕ} (room : most_of_drawing ≤ length buffer) (r : Result ℕ Refusal) {after : List ℕ}
       (st : Stepped (Save buffer) s (save_answer r) after s) where
-    file-written : Writes file buffer (told r) after
+    pub file-written : Writes file buffer (result_unwrap_or r 0) after
     unfolding step accept
     file-written = go s.opened refl
       where
-        go : (b : Bool) → s.opened ≡ b → Writes file buffer (told r) after
+        go : (b : Bool) → s.opened ≡ b → Writes file buffer (result_unwrap_or r 0) after
         go true h =
             let short = stored_short s.scheme s.instance stored.instance in
             let leaves = saves (unpack_scheme s.scheme) (unpack_instance s.instance) (unpack_history s.history) buffer (omega arith) in
             rw (open_is s h) (told-saved r (rw (open_is s h, leaves) at st.answers) (rw (open_is s h, leaves) at st.lent))
         go false h = rw (shut-is s h) (told-refused r (rw (shut-is s h) at st.answers) (rw (shut-is s h) at st.lent))
 
-    pub saved-written : {n : ℕ} → r ≡ save-answer.Saved n → Writes file buffer n after
-    saved-written e = rw e at file-written
-
-    pub saved-few : {n : ℕ} → r ≡ save-answer.Saved n → n ≤ most_of_drawing
-    saved-few e = omega (arith, (saved-written e).count, file-short)
-
-    pub none_written : {x : Refusal} → r ≡ save-answer.Refused x → Writes file buffer 0 after
-    none_written e = rw e at file-written
+    pub file-few : result_unwrap_or r 0 ≤ most_of_drawing
+    file-few = omega (arith, file-written.count, file-short)
 
 -- # The counts, then the file
 module _ (n : Counts) (out : List ℕ) (room : most_of_trial ≤ length out) {at : ℕ} {now : List ℕ}

@@ -1,10 +1,10 @@
--- `trials::write_saved` meets its contract, answer by answer. Assumes nothing.
-use Rattle.trials.proofs.Laws.Parts.{saved-written, saved-few, none_written}
-use borrow.Author.Rules.{rules}
+-- `trials::write_saved` meets its contract: what is saved is the file, and a shut session has none. Assumes nothing.
+use Rattle.trials.proofs.Laws.Parts.{file-written, file-few}
 use Rattle.trials.proofs.write_saved.Goals as goal
 
-pub returns-in-Saved : goal.returns-in-Saved
-returns-in-Saved c = search (saved-written, saved-few, rules)
-
-pub returns-in-Refused : goal.returns-in-Refused
-returns-in-Refused c = search (none_written, rules)
+pub returns : goal.returns
+returns c =
+    let stored = c.requires.stored_session in
+    let room = c.requires.most_of_drawing_in_bounds in
+    rw c.unwrap_or.ensures
+    (file-written stored room c.save_value.result c.save_value.ensures, file-few stored room c.save_value.result c.save_value.ensures)

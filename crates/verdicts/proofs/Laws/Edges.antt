@@ -1,11 +1,10 @@
 -- Conformity of a graph with one edge or one node more, told from that of the graph: edges rise, so that an edge can only share its node and
 -- its name with the last one before it.
-use Rattle.std.specs.Prelude.{ℕ, ◌<◌, ◌≡◌, ◌↔◌, Bool, true, false, not, ◌&&◌, eqb}
+use Rattle.std.specs.Prelude.{ℕ, ◌<◌, ◌≡◌, ◌↔◌, Bool, true, false, not, ◌&&◌, eqb, None, Some}
 use Rattle.std.proofs.Common.{arith, ap, ◌∙◌, sym, subst, inr, ⊎_elim, eq-eqb}
 use Rattle.std.proofs.Math.Path.{refl}
 use Rattle.std.proofs.Math.Logic.Iff
 use Rattle.std.proofs.lemmas.Bool.{false≢true}
-use Rattle.std.proofs.Math.Option.{none, some}
 use mathlib.Core.List.Memᴰ
 use mathlib.Core.List.{List, [], ◌∷◌, ◌++◌, map}
 use Rattle.lists.specs.Lists.{◌∈◌, any, find}
@@ -251,11 +250,11 @@ joins-classes s from to c name d f g =
     )
 
 module _ {Value : Type 0} (g : Graph Value) (i : ℕ) where
-  pub absent : find (λ n. eqb n.number i) g.nodes ≡ none → stands g i ≡ false
+  pub absent : find (λ n. eqb n.number i) g.nodes ≡ None → stands g i ≡ false
   absent h = (no_member (λ n. eqb n.number i) g.nodes).1 ((finds-none (λ n. eqb n.number i) g.nodes).0 h)
 
   -- the node that is found
-  module _ {n : Node Value} (h : find (λ m. eqb m.number i) g.nodes ≡ some n) where
+  module _ {n : Node Value} (h : find (λ m. eqb m.number i) g.nodes ≡ Some n) where
     found : (n ∈ g.nodes) × (n.number ≡ i)
     found = let r = found-member (λ m. eqb m.number i) g.nodes h in (r.0, (equals n.number i).0 r.1)
 

@@ -1,9 +1,9 @@
 -- A line in turn and order under lines that pass: none of a later key stands above it, and with it the lines of its key rise.
 -- By the last line above: it has an earlier key, and then none of the line's key stands, or the same key, and then it comes last of that.
-use Rattle.std.specs.Prelude.{ℕ, ◌<◌, ◌≡◌, refl, ◌⊎◌, true, take}
+use Rattle.std.specs.Prelude.{ℕ, ◌<◌, ◌≡◌, refl, ◌⊎◌, true, take, Option, None, Some}
 use Rattle.std.proofs.Common.{arith, ap, ◌∙◌, subst, inl, inr, eq-eqb}
-use Rattle.std.proofs.Math.Option.{Option, none, some}
-use mathlib.Core.List.{List, [], ◌∷◌, ◌++◌, map, map-append, get_last?}
+use mathlib.Core.List.{List, [], ◌∷◌, ◌++◌, map, map-append}
+use Rattle.lists.specs.Lists.{last_of}
 use Rattle.lists.specs.Order.{before, rising}
 use Rattle.lists.proofs.Laws.Order.{lexicographic}
 use Rattle.lists.proofs.Laws.OneMore.{no_last, last-split, rising-after}
@@ -14,7 +14,7 @@ use Rattle.model.proofs.Laws.Passing.{turn_of, Passing, passing-in-order, number
 use Rattle.model.proofs.Laws.Keys.{rows_rise, passing-fits, later-not-yet}
 
 module _ {K : Type 0} (f : Format K) (regular : Regular f) (above : List (Line K)) (l : Line K) (passing : Passing f above) (in-form : LineInForm f l)
-    (in-turn : follows f.form_of (get_last? above) l ≡ true) where
+    (in-turn : follows f.form_of (last_of above) l ≡ true) where
   -- the line is the first, or the last line above it is one that it follows
   data Stands : Type 0 where
     first : above ≡ [] → Stands
@@ -22,11 +22,11 @@ module _ {K : Type 0} (f : Format K) (regular : Regular f) (above : List (Line K
         ⊎ ((turn_of f a.key ≡ turn_of f l.key) × (rises (f.form_of l.key).by a.numbers l.numbers ≡ true)) → Stands
 
   line-stands : Stands
-  line-stands = go (get_last? above) refl in-turn
+  line-stands = go (last_of above) refl in-turn
     where
-      go : (o : Option (Line K)) → get_last? above ≡ o → follows f.form_of o l ≡ true → Stands
-      go none e t = first (no_last above e)
-      go (some a) e t =
+      go : (o : Option (Line K)) → last_of above ≡ o → follows f.form_of o l ≡ true → Stands
+      go None e t = first (no_last above e)
+      go (Some a) e t =
           let r = last-split above e in
           after r.0 a r.1 ((lexicographic (turn_of f a.key) (turn_of f l.key) (rises (f.form_of l.key).by a.numbers l.numbers)).0 t)
 
@@ -45,7 +45,7 @@ module _ {K : Type 0} (f : Format K) (regular : Regular f) (above : List (Line K
       go (after front a e (inr t)) = let q = t.0 in none_after front a e k (omega arith)
 
   -- with it, the lines of its key rise by the numbers that count
-  pub rows-rise-with : (n : ℕ) → (f.form_of l.key).by ≡ some n
+  pub rows-rise-with : (n : ℕ) → (f.form_of l.key).by ≡ Some n
       → rising (map (take n) (numbers_of f.form_of l.key above ++ (l.numbers ∷ []))) ≡ true
   rows-rise-with n by = go line-stands
     where

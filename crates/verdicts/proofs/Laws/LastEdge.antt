@@ -1,15 +1,13 @@
--- Whether an edge conforms after the last one above it, told by keys: the last key is that of the last edge, and two keys begin with the same
--- bits exactly if their edges have one node and one name.
-use Rattle.std.specs.Prelude.{ℕ, ◌-◌, ◌/◌, ◌%◌, ◌^◌, ◌≡◌, Bool, true, false, not, ◌&&◌, length, get_or, eqb}
-use Rattle.std.proofs.Common.{arith, ap, ◌∙◌}
+-- Whether the last edge shares its node and its name with another, told by keys: the last key is that of the last edge, and two keys begin with the
+-- same bits exactly if their edges have one node and one name.
+use Rattle.std.specs.Prelude.{ℕ, suc, ◌-◌, ◌/◌, ◌%◌, ◌^◌, ◌≡◌, false, ◌&&◌, length, eqb, Option, None, Some, option_map, slice_get}
+use Rattle.std.proofs.Common.{arith, ap, ◌∙◌, sym}
 use Rattle.std.proofs.Math.Path.{refl}
 use mathlib.Core.List.{List, [], ◌∷◌, map}
+use Rattle.lists.specs.Lists.{last_of}
 use Rattle.lists.proofs.Laws.Lists.{both, equals, same_truth}
-use Rattle.model.specs.Graph.{has, of_kind}
-use Rattle.graph.specs.Packed.{unpack_triple, unpack_declared, triple}
-use Rattle.graph.specs.declared.declarations.Declarations.{Declarations}
-use Rattle.verdicts.specs.Verdicts.{last_shares}
-use Rattle.verdicts.proofs.Laws.Tests.{failed, passed}
+use Rattle.graph.specs.Packed.{unpack_triple}
+use Rattle.verdicts.specs.Verdicts.{shares_with, last_shares}
 
 shares-key : (a b : ℕ) → (eqb (a / 2 ^ 22) (b / 2 ^ 22) && eqb (a / 2 ^ 16 % 2 ^ 6) (b / 2 ^ 16 % 2 ^ 6)) ≡ eqb (a / 2 ^ 16) (b / 2 ^ 16)
 shares-key a b =
@@ -18,57 +16,25 @@ shares-key a b =
       λ h. let r = (equals (a / 2 ^ 16) (b / 2 ^ 16)).0 h in simp (both, equals) (omega arith, omega arith),
     )
 
-module _ (names : Declarations) (permitted edges : List ℕ) (source edge target : ℕ) where
-  abbrev name : ℕ
-  name = edge / 2 ^ 16 % 2 ^ 6
+last-triple : (keys : List ℕ) → last_of (map unpack_triple keys) ≡ option_map unpack_triple (slice_get keys (length keys - 1))
+last-triple [] = refl
+last-triple (k ∷ []) = refl
+last-triple (k ∷ j ∷ keys) =
+    let before : length (j ∷ keys) - 1 ≡ length keys = omega arith in
+    let last : length (k ∷ j ∷ keys) - 1 ≡ suc (length keys) = omega arith in
+    last-triple (j ∷ keys)
+    ∙ ap (λ i. option_map unpack_triple (slice_get (j ∷ keys) i)) before
+    ∙ ap (λ i. option_map unpack_triple (slice_get (k ∷ j ∷ keys) i)) (sym last)
 
-  abbrev is_permitted : Bool
-  is_permitted = has (map unpack_triple permitted) (triple source name target)
-
-  abbrev functional : Bool
-  functional = of_kind 0 (unpack_declared names) name
-
-  abbrev shares : Bool
-  shares = last_shares (map unpack_triple edges) (unpack_triple edge)
-
-  abbrev conforms : Bool
-  conforms = is_permitted && not (functional && shares)
-
-  shares-none : (ks : List ℕ) → length ks ≡ 0 → last_shares (map unpack_triple ks) (unpack_triple edge) ≡ false
+module _ (edges : List ℕ) (edge : ℕ) where
+  last-is : {o : Option ℕ} → o ≡ slice_get edges (length edges - 1)
+      → shares_with (option_map unpack_triple o) (unpack_triple edge) ≡ last_shares (map unpack_triple edges) (unpack_triple edge)
   unfolding last_shares
-  shares-none [] h = refl
-  shares-none (k ∷ ks) h = absurd (omega arith)
+  last-is h = ap (λ o. shares_with (option_map unpack_triple o) (unpack_triple edge)) h ∙ ap (λ o. shares_with o (unpack_triple edge)) (sym (last-triple edges))
 
-  shares-end : (k : ℕ) (ks : List ℕ)
-      → last_shares (map unpack_triple (k ∷ ks)) (unpack_triple edge) ≡ eqb (get_or (k ∷ ks) (length ks) 0 / 2 ^ 16) (edge / 2 ^ 16)
-  unfolding last_shares
-  shares-end k [] = shares-key k edge
-  shares-end k (j ∷ ks) = shares-end j ks
+  pub shares-none : None ≡ slice_get edges (length edges - 1) → false ≡ last_shares (map unpack_triple edges) (unpack_triple edge)
+  shares-none h = last-is h
 
-  shares-last : (ks : List ℕ) → (length ks ≡ 0 → ⊥)
-      → last_shares (map unpack_triple ks) (unpack_triple edge) ≡ eqb (get_or ks (length ks - 1) 0 / 2 ^ 16) (edge / 2 ^ 16)
-  shares-last [] h = absurd (h refl)
-  shares-last (k ∷ ks) h =
-      let last : length ks ≡ length (k ∷ ks) - 1 = omega arith in
-      shares-end k ks ∙ ap (λ (i : ℕ). eqb (get_or (k ∷ ks) i 0 / 2 ^ 16) (edge / 2 ^ 16)) last
-
-  module _ (p : Bool) (e : p ≡ is_permitted) where
-    pub edge-unpermitted : not p ≡ true → false ≡ conforms
-    edge-unpermitted h = rw (failed e h)
-
-    module _ (h : not p ≡ false) (f : Bool) (g : f ≡ functional) where
-      permitted-so : is_permitted ≡ true
-      permitted-so = passed e h
-
-      pub edge-multivalued : not f ≡ true → true ≡ conforms
-      edge-multivalued k = rw (permitted-so, failed g k)
-
-      module _ (k : not f ≡ false) where
-        functional-so : functional ≡ true
-        functional-so = passed g k
-
-        pub edge-first : length edges ≡ 0 → true ≡ conforms
-        edge-first l = rw (permitted-so, functional-so, shares-none edges l)
-
-        pub edge-after : (length edges ≡ 0 → ⊥) → not (eqb (get_or edges (length edges - 1) 0 / 2 ^ 16) (edge / 2 ^ 16)) ≡ conforms
-        edge-after l = rw (permitted-so, functional-so, shares-last edges l)
+  pub shares-last : {k : ℕ} → Some k ≡ slice_get edges (length edges - 1)
+      → eqb (k / 2 ^ 16) (edge / 2 ^ 16) ≡ last_shares (map unpack_triple edges) (unpack_triple edge)
+  shares-last {k} h = sym (shares-key k edge) ∙ last-is h

@@ -1,6 +1,6 @@
 -- Reading a text of any format line by line: how far a text is read, and what the next line does to that. The lines read so far all pass, and the
 -- answer to the whole text is that to what is left of it under these lines.
-use Rattle.std.specs.Prelude.{ℕ, suc, ◌≤◌, ◌≡◌, refl, List, [], ◌∷◌, ◌++◌, length}
+use Rattle.std.specs.Prelude.{ℕ, suc, ◌≤◌, ◌≡◌, refl, List, [], ◌∷◌, ◌++◌, length, Ok, Err}
 use Rattle.std.proofs.Common.{arith, ◌∙◌, sym, length-append, drop_of_length-le}
 use Rattle.std.proofs.Math.Path.{ap}
 use Rattle.std.proofs.Math.Bool.{cond}
@@ -11,7 +11,6 @@ use Rattle.model.proofs.Laws.Passing.{Passing, passing-none, passing-snoc}
 use Rattle.model.specs.declared.Refusal.{Refusal}
 use Rattle.model.specs.declared.Refusal.TheVariants.{Malformed}
 use Rattle.verdicts.specs.NextLine.{lines_from, LineAt, NoLineAt}
-use Rattle.verdicts.specs.declared.Verdict.TheVariants.{Passes, Fails}
 use Rattle.verdicts.proofs.Laws.Verdicts.{after, verdict_of, reading-verdict, verdict-passes}
 
 -- `count` lines of the text are read, up to a place
@@ -36,11 +35,11 @@ module _ {K : Type 0} {f : Format K} {text : List ℕ} {at count : ℕ} {above :
     read_here = u.left ∙ ap (reading f above) stands.line ∙ reading-verdict f above l (lines_from f text next)
 
     -- a line that fails is refused as it fails
-    pub failing-line-read : {x : Refusal} → verdict_of f above l ≡ Fails x → read f text ≡ refused x
+    pub failing-line-read : {x : Refusal} → verdict_of f above l ≡ Err x → read f text ≡ refused x
     failing-line-read e = read_here ∙ rw e
 
     -- a line that passes is read
-    pub upto_next : verdict_of f above l ≡ Passes → Upto f text next (suc count) (above ++ (l ∷ []))
+    pub upto_next : verdict_of f above l ≡ Ok tt → Upto f text next (suc count) (above ++ (l ∷ []))
     upto_next e =
         let counted = u.counted in
         let few = u.few in

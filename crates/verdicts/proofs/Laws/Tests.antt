@@ -1,21 +1,20 @@
 -- A line's verdict by the outcomes of its tests, "tried 1 to 5": the first that fails it decides. The tests are as code leaves them: a result
 -- that is that of a test, and the branch taken on it.
-use Rattle.std.specs.Prelude.{ℕ, ◌≡◌, Bool, true, false, not, ◌&&◌}
+use Rattle.std.specs.Prelude.{ℕ, ◌≡◌, Bool, true, false, not, ◌&&◌, Ok, Err}
 use Rattle.std.proofs.Common.{sym, ◌∙◌}
 use Rattle.std.proofs.lemmas.Bool.{not-true, not-false}
 use Rattle.model.specs.Files.{Checks}
 use Rattle.model.specs.declared.Refusal.TheVariants.{Malformed, TooMany, Undeclared, Nonconforming, BadAction}
 use Rattle.verdicts.specs.Verdicts.{judged, verdict}
-use Rattle.verdicts.specs.declared.Verdict.TheVariants.{Passes, Fails}
 
 -- # Causes 1 and 2, after which the checks decide
 module _ (line : ℕ) (in_place crowded : Bool) (c : Checks) where
-  pub verdict-malformed : in_place ≡ false → verdict line in_place crowded c ≡ Fails (Malformed line)
+  pub verdict-malformed : in_place ≡ false → verdict line in_place crowded c ≡ Err (Malformed line)
   unfolding verdict
   verdict-malformed e = rw e
 
   module _ (e : in_place ≡ true) where
-    pub verdict-crowded : crowded ≡ true → verdict line in_place crowded c ≡ Fails (TooMany line)
+    pub verdict-crowded : crowded ≡ true → verdict line in_place crowded c ≡ Err (TooMany line)
     unfolding verdict
     verdict-crowded f = rw (e, f)
 
@@ -25,21 +24,21 @@ module _ (line : ℕ) (in_place crowded : Bool) (c : Checks) where
 
 -- # Causes 3 to 5, by the first of a line's checks that fails
 module _ (line : ℕ) (c : Checks) where
-  pub judged-undeclared : c.declared ≡ false → Fails (Undeclared line) ≡ judged line c
+  pub judged-undeclared : c.declared ≡ false → Err (Undeclared line) ≡ judged line c
   unfolding judged
   judged-undeclared d = rw d
 
   module _ (declared : c.declared ≡ true) where
-    pub judged-nonconforming : c.conforming ≡ false → Fails (Nonconforming line) ≡ judged line c
+    pub judged-nonconforming : c.conforming ≡ false → Err (Nonconforming line) ≡ judged line c
     unfolding judged
     judged-nonconforming e = rw (declared, e)
 
     module _ (conforming : c.conforming ≡ true) where
-      pub judged-bad-action : c.suited ≡ false → Fails (BadAction line) ≡ judged line c
+      pub judged-bad-action : c.suited ≡ false → Err (BadAction line) ≡ judged line c
       unfolding judged
       judged-bad-action s = rw (declared, conforming, s)
 
-      pub judged-passes : c.suited ≡ true → Passes ≡ judged line c
+      pub judged-passes : c.suited ≡ true → Ok tt ≡ judged line c
       unfolding judged
       judged-passes s = rw (declared, conforming, s)
 

@@ -5,15 +5,15 @@ use Rattle.std.proofs.Common.{arith, add-one, ap, ◌∙◌, subst, append_assoc
 use Rattle.std.proofs.Math.ListN.{length-append}
 use Rattle.std.proofs.Math.Seq.{drop-cons}
 use Rattle.lists.specs.Buffers.{Writes, WritesFrom}
-use Rattle.lists.proofs.Laws.Buffers.{Unwritten, unwritten-all, part-inside, part-fits, unwritten-part, written_on, unwritten-none, unwritten-from, written_from}
+use Rattle.lists.proofs.Laws.Buffers.{Unwritten, unwritten-all, part-inside, part-fits, unwritten-part, written_on, unwritten-none, written_from}
 use Rattle.model.specs.Meaning.{most_of_drawing}
-use Rattle.model.specs.Files.DrawingFile.{class=, name=, may=, node=, edge=}
-use Rattle.forms.specs.Forms.{kind_count}
+use Rattle.forms.specs.declared.LineKind.{LineKind}
+use Rattle.forms.specs.declared.LineKind.TheVariants.{Class, Name, May, Node, Edge}
 use Rattle.printing.specs.Written.{row_text}
-use Rattle.writing.specs.Lines.{rows_text, lines_of, file_of_rows}
+use Rattle.writing.specs.Lines.{rows_text, file_of_rows}
 
 -- # The lines of one kind
-module _ (kind : ℕ) (rows : List ℕ) where
+module _ (kind : LineKind) (rows : List ℕ) where
   -- those that are left when i are done
   abbrev lines_from : ℕ → List ℕ
   lines_from i = rows_text kind (drop i rows)
@@ -27,12 +27,11 @@ module _ (kind : ℕ) (rows : List ℕ) where
   lines_none i h = rw (drop_of_length-le rows {i = i} h)
 
 -- `count` bytes are the lines of i rows
-pub record Summed (kind : ℕ) (rows : List ℕ) (count i : ℕ) : Type 0 where
-  pub known : kind < kind_count
+pub record Summed (kind : LineKind) (rows : List ℕ) (count i : ℕ) : Type 0 where
   pub short : length (rows_text kind rows) ≤ most_of_drawing
   pub left : count + length (lines_from kind rows i) ≡ length (rows_text kind rows)
 
-module _ {kind : ℕ} {rows : List ℕ} {count i : ℕ} (s : Summed kind rows count i) where
+module _ {kind : LineKind} {rows : List ℕ} {count i : ℕ} (s : Summed kind rows count i) where
   module _ (h : i < length rows) {r : ℕ} (line : r ≡ length (row_text kind (get_or rows i 0))) where
     split : length (lines_from kind rows i) ≡ r + length (lines_from kind rows (i + 1))
     split =
@@ -42,22 +41,17 @@ module _ {kind : ℕ} {rows : List ℕ} {count i : ℕ} (s : Summed kind rows co
     summed-room = omega (arith, s.left, s.short, split)
 
     pub summed-next : Summed kind rows (count + r) (i + 1)
-    summed-next = record { known = s.known; short = s.short; left = omega (arith, s.left, split) }
+    summed-next = record { short = s.short; left = omega (arith, s.left, split) }
 
   pub summed-all : length rows ≤ i → (count ≡ length (rows_text kind rows)) × (count ≤ most_of_drawing)
   summed-all h = let none = ap length (lines_none kind rows i h) in (omega (arith, s.left), omega (arith, s.left, s.short))
 
 -- the lines of i rows are written, from a place on
-pub record Lined (kind : ℕ) (rows : List ℕ) (from : ℕ) (before : List ℕ) (at i : ℕ) (now : List ℕ) : Type 0 where
-  pub known : kind < kind_count
+pub record Lined (kind : LineKind) (rows : List ℕ) (from : ℕ) (before : List ℕ) (at i : ℕ) (now : List ℕ) : Type 0 where
   pub room : from + length (rows_text kind rows) ≤ length before
   pub left : Unwritten (take from before ++ rows_text kind rows) before (lines_from kind rows i) at now
 
-module _ (kind : ℕ) (rows : List ℕ) (from : ℕ) (before : List ℕ) where
-  pub lined-none : kind < kind_count → from + length (rows_text kind rows) ≤ length before → Lined kind rows from before from 0 before
-  lined-none h room = record { known = h; room = room; left = unwritten-from (rows_text kind rows) from before room }
-
-module _ {kind : ℕ} {rows : List ℕ} {from : ℕ} {before : List ℕ} {at i : ℕ} {now : List ℕ} (l : Lined kind rows from before at i now) where
+module _ {kind : LineKind} {rows : List ℕ} {from : ℕ} {before : List ℕ} {at i : ℕ} {now : List ℕ} (l : Lined kind rows from before at i now) where
   abbrev whole : List ℕ
   whole = take from before ++ rows_text kind rows
 
@@ -73,10 +67,7 @@ module _ {kind : ℕ} {rows : List ℕ} {from : ℕ} {before : List ℕ} {at i :
 
     module _ {taken : ℕ} {after : List ℕ} (w : Writes line (take (length now - at) (drop at now)) taken after) where
       pub lined-next : Lined kind rows from before (at + taken) (i + 1) (take at now ++ (after ++ drop (length now - at) (drop at now)))
-      lined-next = record { known = l.known; room = l.room; left = unwritten-part line (lines_from kind rows (i + 1)) here w }
-
-      pub line_small : length before < 2 ^ 64 → at + taken < 2 ^ 64
-      line_small h = omega (arith, lined-next.left.reached, lined-next.left.fits)
+      lined-next = record { room = l.room; left = unwritten-part line (lines_from kind rows (i + 1)) here w }
 
   pub lined-all : length rows ≤ i → WritesFrom (rows_text kind rows) from before at now
   lined-all h =
@@ -88,80 +79,80 @@ module _ (classes names permitted nodes edges : List ℕ) where
   file = file_of_rows classes names permitted nodes edges
 
   file-bytes : length file
-      ≡ length (lines_of class= classes) + length (lines_of name= names) + length (lines_of may= permitted) + length (lines_of node= nodes)
-      + length (lines_of edge= edges)
+      ≡ length (rows_text Class classes) + length (rows_text Name names) + length (rows_text May permitted) + length (rows_text Node nodes)
+      + length (rows_text Edge edges)
   unfolding file_of_rows
   file-bytes = simp length-append
 
-  pub file-counted : {a b c d e : ℕ} → a ≡ length (lines_of class= classes) → b ≡ length (lines_of name= names) → c ≡ length (lines_of may= permitted)
-      → d ≡ length (lines_of node= nodes) → e ≡ length (lines_of edge= edges) → a + b + c + d + e ≡ length file
+  pub file-counted : {a b c d e : ℕ} → a ≡ length (rows_text Class classes) → b ≡ length (rows_text Name names) → c ≡ length (rows_text May permitted)
+      → d ≡ length (rows_text Node nodes) → e ≡ length (rows_text Edge edges) → a + b + c + d + e ≡ length file
   file-counted la lb lc ld le = omega (arith, file-bytes)
 
   -- how long they are
   module _ (short : length file ≤ most_of_drawing) where
-    pub classes-short : length (lines_of class= classes) ≤ most_of_drawing
+    pub classes-short : length (rows_text Class classes) ≤ most_of_drawing
     classes-short = omega (arith, file-bytes)
 
-    pub names-short : length (lines_of name= names) ≤ most_of_drawing
+    pub names-short : length (rows_text Name names) ≤ most_of_drawing
     names-short = omega (arith, file-bytes)
 
-    pub permitted-short : length (lines_of may= permitted) ≤ most_of_drawing
+    pub permitted-short : length (rows_text May permitted) ≤ most_of_drawing
     permitted-short = omega (arith, file-bytes)
 
-    pub nodes-short : length (lines_of node= nodes) ≤ most_of_drawing
+    pub nodes-short : length (rows_text Node nodes) ≤ most_of_drawing
     nodes-short = omega (arith, file-bytes)
 
-    pub edges-short : length (lines_of edge= edges) ≤ most_of_drawing
+    pub edges-short : length (rows_text Edge edges) ≤ most_of_drawing
     edges-short = omega (arith, file-bytes)
 
   -- writing them: what is left when the classes are written, then the names, ..
   abbrev after_permitted : List ℕ
-  after_permitted = lines_of node= nodes ++ (lines_of edge= edges ++ [])
+  after_permitted = rows_text Node nodes ++ (rows_text Edge edges ++ [])
 
   abbrev after_names : List ℕ
-  after_names = lines_of may= permitted ++ after_permitted
+  after_names = rows_text May permitted ++ after_permitted
 
   abbrev after_classes : List ℕ
-  after_classes = lines_of name= names ++ after_names
+  after_classes = rows_text Name names ++ after_names
 
-  file-split : file ≡ lines_of class= classes ++ after_classes
+  file-split : file ≡ rows_text Class classes ++ after_classes
   unfolding file_of_rows
   file-split = simp (append_assoc, append-nil)
 
   module _ (before : List ℕ) (fits : length file ≤ length before) where
-    none_written : Unwritten file before (lines_of class= classes ++ after_classes) 0 before
+    none_written : Unwritten file before (rows_text Class classes ++ after_classes) 0 before
     none_written = subst (λ t. Unwritten file before t 0 before) file-split (unwritten-all fits)
 
-    pub classes-fit : 0 + length (lines_of class= classes) ≤ length before
-    classes-fit = part-inside (lines_of class= classes) after_classes none_written
+    pub classes-fit : 0 + length (rows_text Class classes) ≤ length before
+    classes-fit = part-inside (rows_text Class classes) after_classes none_written
 
-    module _ {a : ℕ} {na : List ℕ} (wa : WritesFrom (lines_of class= classes) 0 before a na) where
+    module _ {a : ℕ} {na : List ℕ} (wa : WritesFrom (rows_text Class classes) 0 before a na) where
       classes-written : Unwritten file before after_classes a na
-      classes-written = written_on (lines_of class= classes) after_classes none_written wa
+      classes-written = written_on (rows_text Class classes) after_classes none_written wa
 
-      pub names-fit : a + length (lines_of name= names) ≤ length na
-      names-fit = part-inside (lines_of name= names) after_names classes-written
+      pub names-fit : a + length (rows_text Name names) ≤ length na
+      names-fit = part-inside (rows_text Name names) after_names classes-written
 
-      module _ {b : ℕ} {nb : List ℕ} (wb : WritesFrom (lines_of name= names) a na b nb) where
+      module _ {b : ℕ} {nb : List ℕ} (wb : WritesFrom (rows_text Name names) a na b nb) where
         names-written : Unwritten file before after_names b nb
-        names-written = written_on (lines_of name= names) after_names classes-written wb
+        names-written = written_on (rows_text Name names) after_names classes-written wb
 
-        pub permitted-fit : b + length (lines_of may= permitted) ≤ length nb
-        permitted-fit = part-inside (lines_of may= permitted) after_permitted names-written
+        pub permitted-fit : b + length (rows_text May permitted) ≤ length nb
+        permitted-fit = part-inside (rows_text May permitted) after_permitted names-written
 
-        module _ {c : ℕ} {nc : List ℕ} (wc : WritesFrom (lines_of may= permitted) b nb c nc) where
+        module _ {c : ℕ} {nc : List ℕ} (wc : WritesFrom (rows_text May permitted) b nb c nc) where
           permitted-written : Unwritten file before after_permitted c nc
-          permitted-written = written_on (lines_of may= permitted) after_permitted names-written wc
+          permitted-written = written_on (rows_text May permitted) after_permitted names-written wc
 
-          pub nodes-fit : c + length (lines_of node= nodes) ≤ length nc
-          nodes-fit = part-inside (lines_of node= nodes) (lines_of edge= edges ++ []) permitted-written
+          pub nodes-fit : c + length (rows_text Node nodes) ≤ length nc
+          nodes-fit = part-inside (rows_text Node nodes) (rows_text Edge edges ++ []) permitted-written
 
-          module _ {d : ℕ} {nd : List ℕ} (wd : WritesFrom (lines_of node= nodes) c nc d nd) where
-            nodes-written : Unwritten file before (lines_of edge= edges ++ []) d nd
-            nodes-written = written_on (lines_of node= nodes) (lines_of edge= edges ++ []) permitted-written wd
+          module _ {d : ℕ} {nd : List ℕ} (wd : WritesFrom (rows_text Node nodes) c nc d nd) where
+            nodes-written : Unwritten file before (rows_text Edge edges ++ []) d nd
+            nodes-written = written_on (rows_text Node nodes) (rows_text Edge edges ++ []) permitted-written wd
 
-            pub edges_fit : d + length (lines_of edge= edges) ≤ length nd
-            edges_fit = part-inside (lines_of edge= edges) [] nodes-written
+            pub edges_fit : d + length (rows_text Edge edges) ≤ length nd
+            edges_fit = part-inside (rows_text Edge edges) [] nodes-written
 
-            pub file-written : {e : ℕ} {ne : List ℕ} → WritesFrom (lines_of edge= edges) d nd e ne → Writes file before e ne
-            file-written we = unwritten-none (written_on (lines_of edge= edges) [] nodes-written we)
+            pub file-written : {e : ℕ} {ne : List ℕ} → WritesFrom (rows_text Edge edges) d nd e ne → Writes file before e ne
+            file-written we = unwritten-none (written_on (rows_text Edge edges) [] nodes-written we)

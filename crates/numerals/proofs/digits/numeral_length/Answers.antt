@@ -1,16 +1,7 @@
--- the goals that are left of `numeral_length`
-use Prim.Native.Nat.{◌≤◌}
-use native.Mathlib.Omega.{arith}
+-- `numerals::digits::numeral_length` meets its contract: one more than the power of ten that the number reaches. Assumes nothing.
 use borrow.Author.Rules.{rules}
-use Rattle.lists.specs.Decimal.{most_digits}
-use Rattle.numerals.specs.Laws.Digits.{counted-few, counted-more, counted-all}
+use Rattle.numerals.specs.Laws.Digits.{numeral-many}
 use Rattle.numerals.proofs.digits.numeral_length.Goals as goal
 
-pub overflow_add-digits : goal.overflow_add-digits
-overflow_add-digits c = let few : c.loop-rest.digits ≤ most_digits = search (counted-few, rules) in omega arith
-
-pub loop-rest-preserved : goal.loop-rest-preserved
-loop-rest-preserved c = search (counted-more, rules)
-
-pub returns : goal.returns
-returns c = search (counted-all, counted-few, rules)
+pub returns-in-Some : goal.returns-in-Some
+returns-in-Some c = search (numeral-many, rules)

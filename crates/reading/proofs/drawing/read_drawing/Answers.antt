@@ -1,45 +1,61 @@
 -- the goals that are left of `read_drawing`
-use mathlib.Core.Path.{refl}
-use borrow.Author.Rules.{rules}
-use Rattle.reading.specs.Laws.DrawingHeld.{read-to-start, read-to-held, read-to-coming, read-to-less, read-to-room, read-to-next}
-use Rattle.reading.specs.Laws.DrawingHeld.{malformed-read, failing-read, read-to-end}
+use Rattle.std.specs.Prelude.{◌+◌, ◌≡◌}
+use Rattle.std.proofs.Common.{arith, rules}
+use Rattle.std.proofs.lemmas.Result.{err_from_is_err_and}
+use Rattle.model.specs.declared.Refusal.TheVariants.{Malformed}
+use Rattle.reading.specs.Laws.DrawingHeld.{read-to-start, read-to-held, read-to-coming, read-to-room, read-to-next}
+use Rattle.reading.specs.Laws.DrawingHeld.{unended-read, malformed-read, failing-read, read-to-end}
 use Rattle.reading.proofs.drawing.read_drawing.Goals as goal
 
 pub loop-at-init : goal.loop-at-init
-loop-at-init c =
-    read-to-start _ _ _ _ c.new-standing.ensures c.new-last.ensures refl refl refl
+loop-at-init c = read-to-start _ c.new-drawing.ensures c.new-last.ensures
 
-pub returns-in_default : goal.returns-in_default
-returns-in_default c = search (malformed-read, rules)
+pub returns-in_err-bytes : goal.returns-in_err-bytes
+returns-in_err-bytes c =
+    let p = err_from_is_err_and c.from_residual.result c.from_residual.ensures.1 in
+    let none = c.in_err-bytes.ensures.ok_part in
+    let refused : c.in_err-bytes.field-0.0 ≡ Malformed (c.loop-at.last.lines + 1) = grind arith in
+    rw (p.1, p.2, refused) (unended-read c.loop-at.invariant c.loop-at-test.true (rw none at c.line_at.ensures))
 
-pub check_line-verdict-requires-clause-held : goal.check_line-verdict-requires-clause-held
-check_line-verdict-requires-clause-held c = read-to-held c.loop-at.invariant
+pub returns-in_err-l : goal.returns-in_err-l
+returns-in_err-l c =
+    let p = err_from_is_err_and c.from_residual-in_err-l.result c.from_residual-in_err-l.ensures.1 in
+    let bytes = c.in_ok-bytes.ensures.ok_part in
+    let none = c.in_err-l.ensures.ok_part in
+    let refused : c.in_err-l.field-0.0 ≡ Malformed (c.loop-at.last.lines + 1) = grind arith in
+    rw (p.1, p.2, refused) (malformed-read c.loop-at.invariant c.loop-at-test.true (rw bytes at c.line_at.ensures) c.drawing_line.ensures none)
 
-pub check_line-verdict-requires-clause-coming : goal.check_line-verdict-requires-clause-coming
-check_line-verdict-requires-clause-coming c =
-    read-to-coming c.loop-at.invariant c.next_drawing_line.ensures c.in-Line.is (search rules)
+pub check_line-requires-clause-held : goal.check_line-requires-clause-held
+check_line-requires-clause-held c = read-to-held c.loop-at.invariant
 
-pub returns-in-Fails : goal.returns-in-Fails
-returns-in-Fails c =
-    failing-read c.loop-at.invariant c.next_drawing_line.ensures c.in-Line.is c.check_line-verdict.ensures
-    c.in-Fails.is _ c.refused_drawing-in-Fails.ensures
+pub check_line-requires-clause-coming : goal.check_line-requires-clause-coming
+check_line-requires-clause-coming c =
+    let bytes = c.in_ok-bytes.ensures.ok_part in
+    let read = c.in_ok-l.ensures.ok_part in
+    read-to-coming c.loop-at.invariant c.loop-at-test.true (rw bytes at c.line_at.ensures) c.drawing_line.ensures read (search rules)
 
-pub keep_line-standing-requires-clause-fits : goal.keep_line-standing-requires-clause-fits
-keep_line-standing-requires-clause-fits c = c.loop-at.invariant.fits
+pub returns-in_err-check_line : goal.returns-in_err-check_line
+returns-in_err-check_line c =
+    let p = err_from_is_err_and c.from_residual-in_err-check_line.result c.from_residual-in_err-check_line.ensures.1 in
+    let bytes = c.in_ok-bytes.ensures.ok_part in
+    let read = c.in_ok-l.ensures.ok_part in
+    rw (p.1, p.2)
+    (failing-read c.loop-at.invariant c.loop-at-test.true (rw bytes at c.line_at.ensures) c.drawing_line.ensures read c.check_line.ensures
+    c.in_err-check_line.was)
 
-pub keep_line-standing-requires-clause-room : goal.keep_line-standing-requires-clause-room
-keep_line-standing-requires-clause-room c =
-    read-to-room c.loop-at.invariant c.next_drawing_line.ensures c.in-Line.is c.check_line-verdict.ensures c.in_default-verdict.is
-
-pub loop-at-smaller : goal.loop-at-smaller
-loop-at-smaller c =
-    read-to-less c.loop-at.invariant c.next_drawing_line.ensures c.in-Line.is
+pub keep-requires-clause-room : goal.keep-requires-clause-room
+keep-requires-clause-room c =
+    let bytes = c.in_ok-bytes.ensures.ok_part in
+    let read = c.in_ok-l.ensures.ok_part in
+    read-to-room c.loop-at.invariant c.loop-at-test.true (rw bytes at c.line_at.ensures) c.drawing_line.ensures read c.check_line.ensures
+    c.in_ok-check_line.was
 
 pub loop-at-preserved : goal.loop-at-preserved
 loop-at-preserved c =
-    read-to-next c.loop-at.invariant c.next_drawing_line.ensures c.in-Line.is c.check_line-verdict.ensures
-    c.in_default-verdict.is c.keep_line-standing.ensures
+    let bytes = c.in_ok-bytes.ensures.ok_part in
+    let read = c.in_ok-l.ensures.ok_part in
+    read-to-next c.loop-at.invariant c.loop-at-test.true (rw bytes at c.line_at.ensures) c.drawing_line.ensures read c.check_line.ensures
+    c.in_ok-check_line.was c.keep.ensures
 
 pub returns : goal.returns
-returns c =
-    rw c.made_drawing.ensures (read-to-end c.loop-at.invariant c.loop-at-test.false)
+returns c = read-to-end c.loop-at.invariant c.loop-at-test.false

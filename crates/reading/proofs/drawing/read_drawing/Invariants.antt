@@ -6,7 +6,7 @@ use Rattle.reading.specs.Laws.DrawingHeld.{ReadTo}
 use Rattle.reading.proofs.drawing.read_drawing.Given as goal
 
 abbrev pub invariant-loop-at : goal.invariant-loop-at
-invariant-loop-at l = ReadTo l.text l.at l.last l.standing l.permitted l.nodes l.edges
+invariant-loop-at l = ReadTo l.text l.at l.last l.drawing
 
 abbrev pub decreases-loop-at : goal.decreases-loop-at
 decreases-loop-at l = length l.text - l.at

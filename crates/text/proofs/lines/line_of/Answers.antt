@@ -1,15 +1,12 @@
--- the goals that are left of `line_of`
+-- `text::lines::line_of` meets its contract: what stands before the byte = is looked up, and what follows it is read. Assumes nothing.
 use native.Mathlib.Omega.{arith}
+use Rattle.std.proofs.Common.{◌∙◌}
 use borrow.Author.Rules.{rules}
-use Rattle.text.specs.Laws.Parsing.{without-equals, equals-inside, word-length, two-equals}
-use Rattle.text.specs.Laws.Parsing.{sought-none, sought-next, sought-read, sought-not, sought-nowhere}
+use Rattle.text.specs.Laws.Parsing.{without-equals, equals-inside, word-length, two-equals, parted, sought-nowhere, sought-not, sought-read}
 use Rattle.text.proofs.lines.line_of.Goals as goal
 
 pub returns-then-equals-s : goal.returns-then-equals-s
 returns-then-equals-s c = search (without-equals, rules)
-
-pub slice_bounds-key_of-end : goal.slice_bounds-key_of-end
-slice_bounds-key_of-end c = search (word-length, rules)
 
 pub slice_bounds-numbers-count : goal.slice_bounds-numbers-count
 slice_bounds-numbers-count c = let inside = equals-inside _ c.find-equals.ensures c.if-equals-s.false in omega arith
@@ -23,28 +20,21 @@ slice_bounds-numbers-start c = let inside = equals-inside _ c.find-equals.ensure
 pub returns-then-find-numbers : goal.returns-then-find-numbers
 returns-then-find-numbers c = search (two-equals, rules)
 
-pub loop-kind-init : goal.loop-kind-init
-loop-kind-init c =
-    sought-none _ c.find-equals.ensures c.if-equals-s.false
-    c.find.ensures _ _ c.requires.0
-    c.requires.1
-    (λ i. (c.shared_slice_known-1.given i).fits)
-    c.if-find-numbers.false c.key_of-key.ensures
+pub slice_bounds-key_of-end : goal.slice_bounds-key_of-end
+slice_bounds-key_of-end c = search (word-length, rules)
 
-pub returns-in_default : goal.returns-in_default
-returns-in_default c = search (sought-not, rules)
+pub returns-in_err-kind : goal.returns-in_err-kind
+returns-in_err-kind c =
+    let p = parted c.args.s.now c.find-equals.ensures c.if-equals-s.false c.find.ensures (λ i. (c.type_inv.s i).fits) c.if-find-numbers.false in
+    c.from_residual.ensures ∙ sought-nowhere p c.args.kinds.now c.key_of.ensures c.kind_with.ensures c.in_err-kind.was
 
-pub returns-then-form-key : goal.returns-then-form-key
-returns-then-form-key c =
-    sought-read c.loop-kind.invariant
-    c.loop-kind-test.true
-    c.form_at-form.ensures
-    c.if-form-key.true c.row_of.ensures c.in-Is.is
-
-pub loop-kind-preserved : goal.loop-kind-preserved
-loop-kind-preserved c =
-    sought-next c.loop-kind.invariant c.loop-kind-test.true
-    c.form_at-form.ensures c.if-form-key.false
+pub returns-in_err-row : goal.returns-in_err-row
+returns-in_err-row c =
+    let p = parted c.args.s.now c.find-equals.ensures c.if-equals-s.false c.find.ensures (λ i. (c.type_inv.s i).fits) c.if-find-numbers.false in
+    c.from_residual-in_err-row.ensures
+    ∙ sought-not p c.args.kinds.now c.key_of.ensures c.kind_with.ensures c.in_ok-kind.was c.row_of.ensures c.in_err-row.was
 
 pub returns : goal.returns
-returns c = search (sought-nowhere, rules)
+returns c =
+    let p = parted c.args.s.now c.find-equals.ensures c.if-equals-s.false c.find.ensures (λ i. (c.type_inv.s i).fits) c.if-find-numbers.false in
+    sought-read p c.args.kinds.now c.key_of.ensures c.kind_with.ensures c.in_ok-kind.was c.row_of.ensures c.in_ok-row.was

@@ -4,14 +4,14 @@ use borrow.Author.Rules.{rules}
 use Rattle.text.specs.Laws.Rows.{rowed-none, rowed-next, row_small, row-short, row-not, row-end, row_more, piece-within}
 use Rattle.text.proofs.lines.row_of.Goals as goal
 
-pub loop-i-init : goal.loop-i-init
-loop-i-init c = search (rowed-none, rules)
+pub loop-place-init : goal.loop-place-init
+loop-place-init c = search (rowed-none, rules)
 
 pub returns-then-s-at : goal.returns-then-s-at
 returns-then-s-at c = search (row-short, rules)
 
 pub overflow_add-end : goal.overflow_add-end
-overflow_add-end c = let within = piece-within c.loop-i.invariant c.if-s-at.false c.find.ensures in omega arith
+overflow_add-end c = let within = piece-within c.loop-place.invariant c.if-s-at.false c.find.ensures in omega arith
 
 pub slice_bounds-numeral_below-end : goal.slice_bounds-numeral_below-end
 slice_bounds-numeral_below-end c = search (piece-within, rules)
@@ -19,34 +19,27 @@ slice_bounds-numeral_below-end c = search (piece-within, rules)
 pub returns-in_default : goal.returns-in_default
 returns-in_default c = search (row-not, rules)
 
-pub loop-i-preserved : goal.loop-i-preserved
-loop-i-preserved c =
-    rowed-next c.loop-i.invariant
+pub loop-place-preserved : goal.loop-place-preserved
+loop-place-preserved c =
+    rowed-next c.loop-place.invariant
     c.if-s-at.false
     c.find.ensures
-    c.loop-i-test.true
-    c.numeral_below.ensures c.in-Is.is
+    c.loop-place-test.true
+    c.numeral_below.ensures c.in-Some.is
 
 pub overflow_mul-row : goal.overflow_mul-row
-overflow_mul-row c = let small = row_small ((rowed-next c.loop-i.invariant
+overflow_mul-row c = let small = row_small ((rowed-next c.loop-place.invariant
     c.if-s-at.false
     c.find.ensures
-    c.loop-i-test.true
-    c.numeral_below.ensures c.in-Is.is)) in omega arith
+    c.loop-place-test.true
+    c.numeral_below.ensures c.in-Some.is)) in omega arith
 
 pub overflow_add-row : goal.overflow_add-row
-overflow_add-row c = let small = row_small ((rowed-next c.loop-i.invariant
+overflow_add-row c = let small = row_small ((rowed-next c.loop-place.invariant
     c.if-s-at.false
     c.find.ensures
-    c.loop-i-test.true
-    c.numeral_below.ensures c.in-Is.is)) in omega arith
-
-pub overflow_add-at : goal.overflow_add-at
-overflow_add-at c = let next = (rowed-next c.loop-i.invariant
-    c.if-s-at.false
-    c.find.ensures
-    c.loop-i-test.true
-    c.numeral_below.ensures c.in-Is.is) in omega arith
+    c.loop-place-test.true
+    c.numeral_below.ensures c.in-Some.is)) in omega arith
 
 pub returns-then-at-s : goal.returns-then-at-s
 returns-then-at-s c = search (row-end, rules)

@@ -7,8 +7,8 @@ use Rattle.writing.proofs.save.rows_length.Goals as goal
 pub overflow_add-length : goal.overflow_add-length
 overflow_add-length c = search (summed-room, rules)
 
-pub loop-i-preserved : goal.loop-i-preserved
-loop-i-preserved c = search (summed-next, rules)
+pub loop-row-preserved : goal.loop-row-preserved
+loop-row-preserved c = search (summed-next, rules)
 
 pub returns : goal.returns
-returns c = summed-all c.loop-i.invariant (omega arith)
+returns c = summed-all c.loop-row.invariant (omega arith)

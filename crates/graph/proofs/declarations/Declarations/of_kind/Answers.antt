@@ -4,8 +4,8 @@ use borrow.Author.Rules.{rules}
 use Rattle.graph.proofs.Laws.Sets.{of_kind-declared, of_kind-undeclared}
 use Rattle.graph.proofs.declarations.Declarations.of_kind.Goals as goal
 
-pub returns-then-self-n-eq1 : goal.returns-then-self-n-eq1
-returns-then-self-n-eq1 c = search (of_kind-declared, rules)
+pub returns-then-declares : goal.returns-then-declares
+returns-then-declares c = search (of_kind-declared, rules)
 
-pub returns-else-self-n-eq1 : goal.returns-else-self-n-eq1
-returns-else-self-n-eq1 c = search (of_kind-undeclared, rules)
+pub returns-else-declares : goal.returns-else-declares
+returns-else-declares c = search (of_kind-undeclared, rules)

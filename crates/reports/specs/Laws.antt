@@ -1,2 +1,0 @@
--- Laws of reports.
-pub mod Reporting

@@ -1,3 +1,0 @@
--- Laws of what a rule notes, by subject.
-pub mod Parts
-pub mod Begun
