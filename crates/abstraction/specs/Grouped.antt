@@ -1,5 +1,5 @@
 -- New nodes for groups.
-use Rattle.std.specs.Prelude.{ℕ, ◌≡◌, cond, ◌||◌, List, map, length, eqb, Result, IfOk}
+use Rattle.std.specs.Prelude.{ℕ, ◌≡◌, cond, ◌||◌, List, map, length, eqb, Result}
 use Rattle.std.specs.Bool.{⊤}
 use Rattle.lists.specs.Lists.{any}
 use Rattle.model.specs.Graph.{Instance}
@@ -12,10 +12,10 @@ use Rattle.growth.specs.Growth.{judged, Addable}
 use Rattle.edge_runs.specs.Runs.{has_targets}
 use Rattle.groups.specs.Groups.{arms_led_by}
 
--- what is grown to, if nothing is refused: the instance may grow on
+-- what is grown to, also after a refusal: the instance may grow on
 pub record GrowsTo (o : Outcome Instance) (v : Result ⊤ Refusal) (grown : PackedInstance) : Type 0 where
   pub outcome : judged v (unpack_instance grown) ≡ o
-  pub addable : IfOk v (λ _. Addable grown)
+  pub addable : Addable grown
 
 -- a new node with the arms, unless there are none or an old node has just their targets
 unfoldable pub added_with : (class : ℕ) → (arms old numbers : List ℕ) → (b : ℕ) → Instance → Outcome Instance

@@ -1,3 +1,4 @@
 -- Laws of abstraction, by subject.
 pub mod Adding
 pub mod Leading
+pub mod Cases

@@ -12,8 +12,9 @@ ghost use Rattle.abstraction.specs.Grouped.{GrowsTo, added_with, added_at, group
 
 use edge_runs::Runs;
 use graph::instance::PackedInstance;
-use groups::{arms_led_by, numbers_of};
+use groups::{Images, numbers_of};
 use growth::add_node;
+use keys::Rising;
 use model::Refusal;
 
 // A new node with the arms, unless there are none or one of the old nodes, whose runs are given, has just their targets.
@@ -26,7 +27,7 @@ fn add_group(
     requires addable { Addable instance.old }
     requires class_bound { class < 2 ^ 6 }
     requires below { Below (2 ^ 22) arms.now }
-    ensures { GrowsTo (added_with class arms.now old.now.edges.now old.now.numbers.now old.now.name
+    ensures { GrowsTo (added_with class arms.now old.now.edges.keys.now old.now.numbers.now old.now.name
         (unpack_instance instance.old)) result instance.new }
 {
     if arms.is_empty() || old.any_has(arms) {
@@ -39,52 +40,54 @@ fn add_group(
 fn add_groups(
     instance: &mut PackedInstance,
     class: u64,
-    images: &Runs,
+    images: &Images,
     old: &Runs,
 ) -> Result<(), Refusal>
     requires addable { Addable instance.old }
     requires class_bound { class < 2 ^ 6 }
-    requires images_value { keys_rise images.now.numbers.now ≡ true }
-    requires images_len_bound { length images.now.numbers.now ≤ Limits.nodes }
-    requires edges { images.now.edges.now ≡ old.now.edges.now }
+    requires images_len_bound { length images.now.runs.numbers.now ≤ Limits.nodes }
+    requires edges { images.now.runs.edges.keys.now ≡ old.now.edges.keys.now }
     ensures { GrowsTo
-        (in_turn images.now.numbers.now
-        (added_at class images.now.numbers.now images.now.name old.now.edges.now old.now.numbers.now old.now.name)
+        (in_turn images.now.runs.numbers.now
+        (added_at class images.now.runs.numbers.now images.now.runs.name old.now.edges.keys.now old.now.numbers.now old.now.name)
         (unpack_instance instance.old))
         result instance.new }
 {
     let mut room = [0; PackedInstance::NODES];
-    for i in 0..images.numbers.len() {
-        let arms = arms_led_by(images, i, old.name, &mut room);
+    // Kept: the place goes on to `arms_led_by`, which asks for the images before it.
+    for i in 0..images.runs.numbers.len() {
+        let arms = images.arms_led_by(i, old.name, &mut room);
         add_group(instance, class, arms, old)?;
     }
     Ok(())
 }
 
 // What abstraction makes of an instance, of the images.
+// Kept: that the instance's own edges rise stays a `requires`: `Rising` is made of them here, and any other type would hold the instance.
 pub fn with_groups(
-    instance: PackedInstance,
+    instance: &mut PackedInstance,
     class: u64,
     a: u64,
     b: u64,
-    images: &[u64],
-) -> Result<PackedInstance, Refusal>
-    requires addable { Addable instance }
-    requires edges_value { keys_rise (take instance.size instance.edges) ≡ true }
-    requires images_value { keys_rise images.now ≡ true }
-    requires below { Below (2 ^ 16) images.now }
-    requires images_len_bound { length images.now ≤ Limits.nodes }
+    images: Rising,
+) -> Result<(), Refusal>
+    requires addable { Addable instance.old }
+    requires edges_value { keys_rise (take instance.old.size instance.old.edges) ≡ true }
+    requires below { Below (2 ^ 16) images.keys.now }
+    requires images_len_bound { length images.keys.now ≤ Limits.nodes }
     requires class_bound { (class < 2 ^ 6) × (a < 2 ^ 6) × (b < 2 ^ 6) }
-    ensures { Makes (grouped_to class a b images.now (unpack_instance instance)) result }
+    ensures { Makes (grouped_to class a b images.entry.keys.now (unpack_instance instance.old)) result instance.new }
 {
-    let edges = &instance.edges[..instance.size];
+    let before = *instance;
+    let edges = Rising {
+        keys: &before.edges[..before.size],
+    };
     let mut room = [0; PackedInstance::NODES];
-    let numbers = numbers_of(&instance.nodes[..instance.order], class, &mut room);
+    let numbers = numbers_of(&before.nodes[..before.order], class, &mut room);
     let mut starts = [0; PackedInstance::NODES];
     let old = Runs::new(edges, numbers, b, &mut starts);
     let mut starts = [0; PackedInstance::NODES];
-    let images = Runs::new(edges, images, a, &mut starts);
-    let mut grown = instance;
-    add_groups(&mut grown, class, &images, &old)?;
-    Ok(grown)
+    let runs = Runs::new(edges, images.keys, a, &mut starts);
+    let images = Images { runs };
+    add_groups(instance, class, &images, &old)
 }

@@ -8,8 +8,8 @@ use Rattle.graph.specs.Packed.{unpack_scheme, unpack_instance, unpack_rule, Stor
 use Rattle.graph.specs.declared.instance.PackedInstance.{PackedInstance}
 use Rattle.graph.specs.declared.rule.PackedRule.{PackedRule}
 use Rattle.graph.specs.declared.scheme.PackedScheme.{PackedScheme}
-use Rattle.standing.specs.declared.Drawing.{Drawing}
 use Rattle.reading.specs.Readers.{ReadDrawing}
+use Rattle.reading.specs.declared.whole.Whole.{Whole}
 use Rattle.rules.specs.Readers.{ReadRule}
 use Rattle.operations.specs.Applies.{Applies}
 use Rattle.reports.specs.declared.Applied.{Applied}
@@ -39,16 +39,15 @@ rule-stored {r = r} read = read.rule r refl
 module _ (times : ℕ) {file : List ℕ} (rule : List ℕ) where
   pub drawing-unapplied : {x : Refusal} → ReadDrawing file (Err x) → {empty : PackedInstance} → FreshInstance empty
       → {a : AppliedOver} → a ≡ told empty (Err x) → AppliesFiles times file rule a
-  drawing-unapplied read fresh e = rw e (record { reply = rw (← read.answer) refl; instance = rw (← read.answer) fresh.empty })
+  drawing-unapplied read fresh e = rw e (record { reply = rw (← read) refl; instance = rw (← read) fresh.empty })
 
-  module _ {d : Drawing} (opened : ReadDrawing file (Ok d)) where
-    pub rule-unapplied : {x : Refusal} → ReadRule (unpack_scheme d.scheme) rule (Err x) → {a : AppliedOver} → a ≡ told d.instance (Err x)
+  module _ (w : Whole) (opened : ReadDrawing file (Ok w)) where
+    pub rule-unapplied : {x : Refusal} → ReadRule (unpack_scheme w.scheme) rule (Err x) → {a : AppliedOver} → a ≡ told w.instance (Err x)
         → AppliesFiles times file rule a
     rule-unapplied read e =
-        rw e (record { reply = rw (← opened.answer, ← read.answer) refl; instance = rw (← opened.answer, ← read.answer) refl })
+        rw e (record { reply = rw (← opened, ← read.answer) refl; instance = rw (← opened, ← read.answer) refl })
 
-    module _ {r : PackedRule} (read : ReadRule (unpack_scheme d.scheme) rule (Ok r)) where
-      pub all-applied : {a : AppliedOver}
-          → AppliesOver times (unpack_scheme d.scheme) (unpack_rule r) (unpack_instance d.instance) a → AppliesFiles times file rule a
-      all-applied h =
-          record { reply = rw (← opened.answer, ← read.answer) h.reply; instance = rw (← opened.answer, ← read.answer) h.instance }
+    pub all-applied : {r : PackedRule} → ReadRule (unpack_scheme w.scheme) rule (Ok r) → {a : AppliedOver}
+        → AppliesOver times (unpack_scheme w.scheme) (unpack_rule r) (unpack_instance w.instance) a → AppliesFiles times file rule a
+    all-applied read h =
+        record { reply = rw (← opened, ← read.answer) h.reply; instance = rw (← opened, ← read.answer) h.instance }

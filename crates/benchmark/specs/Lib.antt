@@ -3,3 +3,4 @@ pub mod Applications
 pub mod ApplicationLaws
 pub mod Counted
 pub mod Laws
+pub mod Repeated

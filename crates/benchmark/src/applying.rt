@@ -1,14 +1,13 @@
 // The application of a rule, for a program that times it.
 ghost use Rattle.std.specs.Prelude.{◌≡◌};
-ghost use Rattle.graph.specs.Packed.{unpack_scheme, unpack_instance, unpack_rule, StoredInstance, StoredRule};
+ghost use Rattle.graph.specs.Packed.{unpack_scheme, unpack_instance, unpack_rule, StoredRule};
 ghost use Rattle.benchmark.specs.Applications.{told, AppliesOver, AppliesFiles};
 
 use graph::instance::PackedInstance;
 use graph::rule::PackedRule;
-use graph::scheme::PackedScheme;
-use model::{Counts, Difference, Refusal};
+use model::{Counts, Refusal};
 use operations::apply;
-use reading::drawing::read_drawing;
+use reading::drawing::{Whole, read_drawing};
 use reports::Applied;
 use rules::read_rule;
 
@@ -30,12 +29,6 @@ pub struct AppliedOver {
     pub instance: PackedInstance,
 }
 
-const NO_COUNTS: Counts = Counts {
-    matchings: 0,
-    added: Difference { nodes: 0, edges: 0 },
-    removed: Difference { nodes: 0, edges: 0 },
-};
-
 // The reply to an application, or to a text that is refused, and the instance after it: a refusal leaves the one before.
 fn told(before: PackedInstance, applied: Result<Applied, Refusal>) -> AppliedOver
     ensures { result ≡ told before applied }
@@ -55,7 +48,7 @@ fn told(before: PackedInstance, applied: Result<Applied, Refusal>) -> AppliedOve
                 reply: Reply {
                     refusal: row.number,
                     returned: row.returned,
-                    counts: NO_COUNTS,
+                    counts: Counts::NONE,
                 },
                 instance: before,
             }
@@ -64,24 +57,18 @@ fn told(before: PackedInstance, applied: Result<Applied, Refusal>) -> AppliedOve
 }
 
 // Applies the rule so many times to the same instance; no counts if it is not applied at all.
-fn apply_over(
-    scheme: PackedScheme,
-    instance: PackedInstance,
-    rule: PackedRule,
-    times: u64,
-) -> AppliedOver
-    requires stored_instance { StoredInstance (unpack_scheme scheme) instance }
-    requires stored_rule { StoredRule (unpack_scheme scheme) rule }
-    ensures { AppliesOver times (unpack_scheme scheme) (unpack_rule rule) (unpack_instance instance) result }
+fn apply_over(whole: &Whole, rule: &PackedRule, times: u64) -> AppliedOver
+    requires { StoredRule (unpack_scheme whole.now.scheme) rule.now }
+    ensures { AppliesOver times (unpack_scheme whole.now.scheme) (unpack_rule rule.now) (unpack_instance whole.now.instance) result }
 {
     let mut applied = Ok(Applied {
-        counts: NO_COUNTS,
-        instance,
+        counts: Counts::NONE,
+        instance: whole.instance,
     });
-    for _i in 0..times {
-        applied = apply(scheme, instance, rule);
+    for _ in 0..times {
+        applied = apply(&whole.scheme, &whole.instance, rule);
     }
-    told(instance, applied)
+    told(whole.instance, applied)
 }
 
 // Reads a drawing file and a rule text once, and applies the rule to the drawing `times` times.
@@ -91,9 +78,9 @@ pub extern "C" fn apply_rule(file: &[u8], rule: &[u8], times: u64) -> AppliedOve
 {
     match read_drawing(file) {
         Err(refusal) => told(PackedInstance::new(), Err(refusal)),
-        Ok(drawing) => match read_rule(rule, drawing.scheme) {
-            Err(refusal) => told(drawing.instance, Err(refusal)),
-            Ok(read) => apply_over(drawing.scheme, drawing.instance, read, times),
+        Ok(whole) => match read_rule(rule, &whole.scheme) {
+            Err(refusal) => told(whole.instance, Err(refusal)),
+            Ok(read) => apply_over(&whole, &read, times),
         },
     }
 }

@@ -1,4 +1,3 @@
 -- Laws of the calls that change the session, by call.
-pub mod Settling
 pub mod Opening
 pub mod Applying

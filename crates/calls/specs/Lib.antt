@@ -1,3 +1,2 @@
--- What the functions behind the calls accept, and laws.
-pub mod Within
+-- Laws.
 pub mod Laws

@@ -2,7 +2,7 @@
 // the two files. A file that can't be read is named on standard error, and its pair is passed over.
 #![tactic(auto)]
 
-use files::{argument, load};
+use files::{Arguments, load};
 use std::io;
 use std::rt::Files;
 use trials::{PRINTED, job_room, rule_room, write_trial};
@@ -10,9 +10,10 @@ use trials::{PRINTED, job_room, rule_room, write_trial};
 // No name of a file has more bytes.
 const NAME: usize = 4096;
 
+// Kept: `write_all` and no `print!`, since a name is bytes and maybe no UTF-8.
 fn print_name(rt: &impl Print, name: &[u8]) -> io::Result<()> {
     rt.write_all(name)?;
-    rt.write_all(b" ")
+    print!(rt; " ")
 }
 
 fn print_trial(rt: &impl Print, job: &[u8], rule: &[u8]) -> io::Result<()> {
@@ -39,16 +40,10 @@ fn show_pair(
 }
 
 fn main(rt: HostRuntime) -> io::Result<()> {
-    for i in 0..usize::MAX / 2 {
-        let mut job_name = [0u8; NAME];
-        let Some(job_named) = argument(&rt, 2 * i + 1, &mut job_name) else {
-            break
-        };
-        let mut rule_name = [0u8; NAME];
-        let Some(rule_named) = argument(&rt, 2 * i + 2, &mut rule_name) else {
-            break
-        };
-        show_pair(&rt, &job_name[..job_named], &rule_name[..rule_named])?;
+    let mut names: Arguments<_, NAME> = Arguments::new(&rt);
+    // Kept: two names at a time, until one is missing: a `for` gives one.
+    while let (Some(job), Some(rule)) = (names.next(), names.next()) {
+        show_pair(&rt, job.bytes(), rule.bytes())?;
     }
     Ok(())
 }

@@ -2,3 +2,4 @@
 pub mod Marked
 pub mod Retained
 pub mod Deletions
+pub mod Told

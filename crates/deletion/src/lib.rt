@@ -3,13 +3,13 @@
 
 ghost use Rattle.std.specs.Prelude.{◌≡◌, ℕ, Bool, true, ◌^◌, ◌≤◌, length, take};
 ghost use Rattle.lists.specs.Lists.{keep, Below};
-ghost use Rattle.keys.specs.Keys.{keys_rise, Front};
+ghost use Rattle.keys.specs.Keys.{Front};
 ghost use Rattle.graph.specs.Packed.{Fits};
 ghost use Rattle.deletion.specs.Deleted.{marked, Marks, WithoutNodes, WithoutEdges};
 
 use graph::instance::PackedInstance;
 use graph::packing::{NODE_NUMBER, NODE_NUMBERS, TRIPLE_SOURCE};
-use keys::has_key;
+use keys::Rising;
 
 // Marks of nodes' numbers: a bit for each in words, so that whether a number is among them takes one reading.
 #[derive(Drop)]
@@ -52,6 +52,7 @@ fn retain<F: Fn(u64) -> bool>(keys: &mut [u64], count: usize, stays: F) -> usize
         → Front keys.new result (keep p (take count keys.old)) }
 {
     let mut kept = 0;
+    // Kept: an index, since the keys are read and written in one array.
     for next in 0..count {
         let key = keys[next];
         if stays(key) {
@@ -63,29 +64,24 @@ fn retain<F: Fn(u64) -> bool>(keys: &mut [u64], count: usize, stays: F) -> usize
 }
 
 // "Its images go, with every edge at them"
-pub fn without_nodes(instance: PackedInstance, gone: &[u64]) -> PackedInstance
-    requires fits { Fits instance }
+pub fn without_nodes(instance: &mut PackedInstance, gone: &[u64])
+    requires fits { Fits instance.old }
     requires below { Below (2 ^ 16) gone.now }
-    ensures { WithoutNodes gone.now instance result }
+    ensures { WithoutNodes gone.now instance.old instance.new }
 {
     let marked = Marked::of(gone);
-    let mut left = instance;
-    left.order = retain(&mut left.nodes, instance.order, |key| {
+    instance.order = retain(&mut instance.nodes, instance.order, |key| {
         !marked.has(key / NODE_NUMBER)
     });
-    left.size = retain(&mut left.edges, instance.size, |key| {
+    instance.size = retain(&mut instance.edges, instance.size, |key| {
         !marked.has(key / TRIPLE_SOURCE) && !marked.has(key % NODE_NUMBERS)
     });
-    left
 }
 
 // "Their images go."
-pub fn without_edges(instance: PackedInstance, gone: &[u64]) -> PackedInstance
-    requires fits { Fits instance }
-    requires gone_value { keys_rise gone.now ≡ true }
-    ensures { WithoutEdges gone.now instance result }
+pub fn without_edges(instance: &mut PackedInstance, gone: Rising)
+    requires fits { Fits instance.old }
+    ensures { WithoutEdges gone.entry.keys.now instance.old instance.new }
 {
-    let mut left = instance;
-    left.size = retain(&mut left.edges, instance.size, |key| !has_key(gone, key));
-    left
+    instance.size = retain(&mut instance.edges, instance.size, |key| !gone.has(key));
 }

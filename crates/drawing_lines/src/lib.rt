@@ -16,7 +16,7 @@ use forms::LineKind;
 use graph::declarations::Declarations;
 use graph::instance::node_at;
 use graph::packing::{NODE_CLASS, NODE_NUMBER, NUMBERS, TRIPLE_NAME, TRIPLE_SOURCE};
-use keys::shares;
+use keys::{Rising, shares};
 use model::Refusal;
 use standing::Drawing;
 use text::lines::{Last, Line, crowded, follows};
@@ -24,19 +24,15 @@ use verdicts::above::Above;
 use verdicts::edge_conforms;
 
 #[tactic(auto, using(verdicts::proofs::Laws::Tests::Judging), unfolding(crate::specs::DrawingLines::may_checks))]
-fn check_may(
-    classes: Declarations,
-    names: Declarations,
-    triple: u64,
-    line: u64,
-) -> Result<(), Refusal>
+fn check_may(above: &Above, triple: u64, line: u64) -> Result<(), Refusal>
     requires { ((unpack_triple triple).source < 2 ^ 6) × ((unpack_triple triple).target < 2 ^ 6) }
-    ensures { result ≡ judged line (may_checks (scheme_of classes names []) (unpack_triple triple)) }
+    ensures { result ≡ judged line (may_checks (scheme_above above.now) (unpack_triple triple)) }
 {
     let source = triple / TRIPLE_SOURCE;
     let name = triple / TRIPLE_NAME % NUMBERS;
     let target = triple % TRIPLE_NAME;
-    if !classes.declares(source) || !names.declares(name) || !classes.declares(target) {
+    let classes = above.classes;
+    if !classes.declares(source) || !above.names.declares(name) || !classes.declares(target) {
         return Err(Refusal::Undeclared { line });
     }
     if classes.of_kind(Declarations::VALUE, source) {
@@ -46,23 +42,24 @@ fn check_may(
 }
 
 // A value is looked for among all nodes above: values of one class stand in no order.
-fn check_node(classes: Declarations, nodes: &[u64], node: u64, line: u64) -> Result<(), Refusal>
-    ensures { result ≡ judged line (node_checks (scheme_of classes classes []) (map unpack_node nodes.now) (unpack_node node)) }
+fn check_node(above: &Above, node: u64, line: u64) -> Result<(), Refusal>
+    ensures { result ≡ judged line (node_checks (scheme_above above.now) (instance_above above.now).nodes (unpack_node node)) }
 {
     let class = node / NODE_CLASS % NUMBERS;
-    if !classes.declares(class) {
+    if !above.classes.declares(class) {
         return Err(Refusal::Undeclared { line });
     }
-    if classes.of_kind(Declarations::OBJECT, class) {
+    if above.classes.of_kind(Declarations::OBJECT, class) {
         if node % NODE_CLASS != 0 {
             return Err(Refusal::Nonconforming { line });
         }
-    } else if shares(nodes, node, NODE_NUMBER) {
+    } else if shares(above.nodes, node, NODE_NUMBER) {
         return Err(Refusal::Nonconforming { line });
     }
     Ok(())
 }
 
+// Kept: `above`, row and line one by one: a struct of the three would be made and taken apart at each call.
 fn check_edge(above: &Above, edge: u64, line: u64) -> Result<(), Refusal>
     requires nodes_value { rising (map (λ n. n.number ∷ []) (map unpack_node above.now.nodes.now)) ≡ true }
     requires edge_bound { (unpack_triple edge).source < 2 ^ 16 }
@@ -89,14 +86,15 @@ fn check_row(above: &Above, l: Line, line: u64) -> Result<(), Refusal>
     ensures { result ≡ judged line (line_checks (scheme_above above.now) (instance_above above.now) (drawing_key l.kind) l.row) }
 {
     match l.kind {
-        LineKind::May => check_may(above.classes, above.names, l.row, line),
-        LineKind::Node => check_node(above.classes, above.nodes, l.row, line),
+        LineKind::May => check_may(above, l.row, line),
+        LineKind::Node => check_node(above, l.row, line),
         LineKind::Edge => check_edge(above, l.row, line),
         _ => Ok(()),
     }
 }
 
 // How many lines of the kind stand above, of those that document 01 limits: as many as their keys.
+// Kept: alone with the kinds of a drawing file: that of `rule_lines` counts other lines, in another stored value.
 fn lines_above(drawing: &Drawing, kind: LineKind) -> usize
     requires { Fits drawing.now }
     ensures { result ≡ lines_above (unpack_scheme drawing.now.scheme) (unpack_instance drawing.now.instance) (drawing_key kind) }
@@ -127,7 +125,9 @@ pub fn check_line(drawing: &Drawing, last: Last, l: Line) -> Result<(), Refusal>
     let above = Above {
         classes: scheme.classes,
         names: scheme.names,
-        permitted: &scheme.permitted[..scheme.permissions],
+        permitted: Rising {
+            keys: &scheme.permitted[..scheme.permissions],
+        },
         nodes: &instance.nodes[..instance.order],
         edges: &instance.edges[..instance.size],
     };

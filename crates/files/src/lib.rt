@@ -1,7 +1,8 @@
 // Texts in files. What can't be read is told on standard error, and is never taken for an empty text.
 #![tactic(auto)]
 
-ghost use Rattle.std.specs.Prelude.{◌≤◌, length, IfOk, IfSome};
+ghost use Rattle.std.specs.Prelude.{◌≡◌, ◌≤◌, ◌-◌, ◌^◌, length, IfOk, IfSome};
+ghost use Rattle.std.specs.Iterator.{at_most};
 
 use std::env::FillError;
 use std::fs;
@@ -67,14 +68,69 @@ pub fn load(rt: &(impl Files + Eprint), name: &[u8], text: &mut [u8]) -> Option<
         .ok()
 }
 
-// The length of an argument of the program, at the front of the buffer, or none where there is no such argument. One that is too long for the buffer
-// has the buffer's length, and names no file.
-pub fn argument(rt: &impl Env, i: usize, name: &mut [u8]) -> Option<usize>
-    ensures { IfSome result (λ n. n ≤ length name.new) }
-{
-    match rt.arg(i, name) {
-        Ok(length) => Some(length),
-        Err(FillError::TooLong) => Some(name.len()),
-        Err(FillError::NotPresent) => None,
+// A name of a file has so many bytes at most, where a program asks for no more.
+pub const NAME: usize = 64;
+
+// An argument of the program, which names a file. One that is too long has `ROOM` bytes, and names none.
+#[derive(Clone, Copy)]
+pub struct Name<const ROOM: usize> {
+    bytes: [u8; ROOM],
+    length: usize,
+    ghost inside: { length ≤ ROOM },
+}
+
+impl<const ROOM: usize> Name<ROOM> {
+    pub fn bytes(&self) -> &[u8]
+        ensures { length result.now ≤ ROOM }
+    {
+        &self.bytes[..self.length]
+    }
+}
+
+impl<const ROOM: usize> Default for Name<ROOM> {
+    fn default() -> Self {
+        Name {
+            bytes: [0; ROOM],
+            length: 0,
+        }
+    }
+}
+
+// The arguments of the program, each of at most `ROOM` bytes, one after another.
+#[derive(Drop)]
+pub struct Arguments<'a, E, const ROOM: usize> {
+    rt: &'a E,
+    next: usize,
+}
+
+impl<'a, E: Env, const ROOM: usize> Arguments<'a, E, ROOM> {
+    // Argument 0 is the program itself.
+    pub fn new(rt: &'a E) -> Self
+        ensures { result.next ≡ 1 }
+    {
+        Arguments { rt, next: 1 }
+    }
+}
+
+impl<'a, E: Env, const ROOM: usize> Iterator for Arguments<'a, E, ROOM> {
+    type Item = Name<ROOM>;
+
+    ghost remaining = { λ s. at_most (2 ^ 64 - 1 - s.next) };
+
+    fn next(&mut self) -> Option<Name<ROOM>> {
+        let after = self.next.checked_add(1)?;
+        let mut bytes = [0; ROOM];
+        let length = match self.rt.arg(self.next, &mut bytes) {
+            Ok(length) => length,
+            Err(FillError::TooLong) => ROOM,
+            Err(FillError::NotPresent) => return None,
+        };
+        self.next = after;
+        Some(Name { bytes, length })
+    }
+
+    // Kept: the library's own would ask that a `Name` is not too large for memory, which of any `ROOM` is not known.
+    fn size_hint(&self) -> (usize, Option<usize>) {
+        (0, None)
     }
 }

@@ -13,6 +13,7 @@ use graph::rule::{Operation, PackedAction};
 use graph::scheme::PackedScheme;
 
 // The kinds of line of a drawing file, in the order of their turns; then those of a rule text.
+// Kept: one enum for both texts, since one table has their forms and one order their turns; two enums would say form and order twice.
 #[derive(Clone, Copy, PartialEq, Eq, PartialOrd, Ord)]
 pub enum LineKind {
     Class,
@@ -34,7 +35,7 @@ pub enum LineKind {
 // `key` is the key's bytes, `letters` in number, as one number after a 1, in base 256. A line's numbers are kept as one number, its row: `room`
 // is how many values a number has room for there. Lines of one kind rise by their rows divided by `by`, or stand in any order. `most` is how many there
 // may be, where that is limited.
-// Kept: the key is the number that `key_of` promises of any bytes, and the arrays hold four: a form is one copied value, equal to its definition as a whole.
+// Kept: arrays of four with a count, and a key as the number that `key_of` gives: `form` promises `packed_form`, the definition, as one copied value.
 #[derive(Clone, Copy)]
 pub struct Form {
     pub key: u64,

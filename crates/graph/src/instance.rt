@@ -5,7 +5,7 @@ ghost use Rattle.lists.specs.Order.{rising};
 ghost use Rattle.graph.specs.Packed.{FreshInstance, unpack_node};
 
 use crate::packing::NODE_NUMBER;
-use keys::place_dense;
+use keys::Rising;
 
 // A graph's order is its number of nodes, its size the number of its edges.
 // Kept: the arrays with their counts lie in the caller's memory, as C declares them; and a pattern's nodes are other keys, so that one type for both
@@ -24,6 +24,7 @@ impl PackedInstance {
 
     pub const EDGES: usize = 512;
 
+    // Kept: a constructor that promises a fresh value; by a derived `Default` it would be one call more, of the same shape in each type.
     pub fn new() -> PackedInstance
         ensures { FreshInstance result }
     {
@@ -42,12 +43,7 @@ pub fn node_at(nodes: &[u64], number: u64) -> Option<u64>
     requires number_bound { number < 2 ^ 16 }
     ensures { option_map unpack_node result ≡ find (λ n. eqb n.number number) (map unpack_node nodes.now) }
 {
-    let at = place_dense(nodes, number * NODE_NUMBER, NODE_NUMBER);
-    if at < nodes.len() {
-        let node = nodes[at];
-        if node / NODE_NUMBER == number {
-            return Some(node);
-        }
-    }
-    None
+    let at = Rising { keys: nodes }.place_dense(number * NODE_NUMBER, NODE_NUMBER);
+    let node = *nodes.get(at)?;
+    (node / NODE_NUMBER == number).then_some(node)
 }

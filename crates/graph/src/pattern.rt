@@ -1,7 +1,7 @@
 // The pattern as it is stored.
 ghost use Rattle.graph.specs.Packed.{FreshPattern};
 
-#[repr(C)]
+// Kept: arrays with their counts, since a pattern is read without a heap, into fixed memory that is copied by value.
 #[derive(Clone, Copy)]
 pub struct PackedPattern {
     pub nodes: [u64; PackedPattern::NODES],
@@ -15,6 +15,7 @@ impl PackedPattern {
 
     pub const EDGES: usize = 8;
 
+    // Kept: a constructor that promises a fresh value; by a derived `Default` it would be one call more, of the same shape in each type.
     pub fn new() -> PackedPattern
         ensures { FreshPattern result }
     {

@@ -1,5 +1,6 @@
 // The rule as it is stored: a pattern, and an action.
-ghost use Rattle.graph.specs.Operations.{Decodes};
+ghost use Rattle.std.specs.Prelude.{◌≡◌};
+ghost use Rattle.graph.specs.Operations.{Decodes, code_of};
 ghost use Rattle.graph.specs.Packed.{FreshAction, FreshRule};
 
 use crate::pattern::PackedPattern;
@@ -42,8 +43,24 @@ impl TryFrom<u64> for Operation {
     }
 }
 
+impl From<Operation> for u64 {
+    ghost from_gives = { λ operation code. code ≡ code_of operation };
+
+    fn from(operation: Operation) -> u64 {
+        match operation {
+            Operation::PatternOnly => 0,
+            Operation::NodeAddition => 1,
+            Operation::EdgeAddition => 2,
+            Operation::NodeDeletion => 3,
+            Operation::EdgeDeletion => 4,
+            Operation::Abstraction => 5,
+        }
+    }
+}
+
 // `head` is the row of a make, drop or group line, `parts` are those of arm, put or cut lines.
-#[repr(C)]
+// Kept: an array with its count, since an action is read without a heap, into fixed memory; and head and parts beside the operation, since a rule is read
+// line by line, and they come after it.
 #[derive(Clone, Copy)]
 pub struct PackedAction {
     pub operation: Operation,
@@ -55,6 +72,7 @@ pub struct PackedAction {
 impl PackedAction {
     pub const PARTS: usize = 4;
 
+    // Kept: a constructor that promises a fresh value; by a derived `Default` it would be one call more, of the same shape in each type.
     pub fn new() -> PackedAction
         ensures { FreshAction result }
     {
@@ -67,7 +85,6 @@ impl PackedAction {
     }
 }
 
-#[repr(C)]
 #[derive(Clone, Copy)]
 pub struct PackedRule {
     pub pattern: PackedPattern,
@@ -75,6 +92,7 @@ pub struct PackedRule {
 }
 
 impl PackedRule {
+    // Kept: a constructor that promises a fresh value; by a derived `Default` it would be one call more, of the same shape in each type.
     pub fn new() -> PackedRule
         ensures { FreshRule result }
     {

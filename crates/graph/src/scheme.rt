@@ -1,12 +1,13 @@
 // The scheme as it is stored.
-ghost use Rattle.std.specs.Prelude.{◌≡◌, true, map, ◌<◌, ◌^◌};
+ghost use Rattle.std.specs.Prelude.{◌≡◌, map, ◌<◌, ◌^◌};
 ghost use Rattle.model.specs.Graph.{has};
-ghost use Rattle.graph.specs.Packed.{FreshScheme, unpack_triple, triples_rise, triple};
+ghost use Rattle.graph.specs.Packed.{FreshScheme, unpack_triple, triple};
 
 use crate::declarations::Declarations;
 use crate::packing::{TRIPLE_NAME, TRIPLE_SOURCE};
-use keys::has_key;
+use keys::Rising;
 
+// Kept: the array with its count lies in the caller's memory, as C declares it.
 #[repr(C)]
 #[derive(Clone, Copy)]
 pub struct PackedScheme {
@@ -19,6 +20,7 @@ pub struct PackedScheme {
 impl PackedScheme {
     pub const PERMITTED: usize = 256;
 
+    // Kept: a constructor that promises a fresh value; by a derived `Default` it would be one call more, of the same shape in each type.
     pub fn new() -> PackedScheme
         ensures { FreshScheme result }
     {
@@ -32,13 +34,9 @@ impl PackedScheme {
 }
 
 // Whether the triple of classes is permitted.
-pub fn permits(permitted: &[u64], source: u64, name: u64, target: u64) -> bool
-    requires permitted_value { triples_rise permitted.now ≡ true }
-    requires source_bound { (source < 2 ^ 16) × (name < 2 ^ 6) × (target < 2 ^ 16) }
-    ensures { result ≡ has (map unpack_triple permitted.now) (triple source name target) }
+pub fn permits(permitted: Rising, source: u64, name: u64, target: u64) -> bool
+    requires { (source < 2 ^ 16) × (name < 2 ^ 6) × (target < 2 ^ 16) }
+    ensures { result ≡ has (map unpack_triple permitted.entry.keys.now) (triple source name target) }
 {
-    has_key(
-        permitted,
-        source * TRIPLE_SOURCE + name * TRIPLE_NAME + target,
-    )
+    permitted.has(source * TRIPLE_SOURCE + name * TRIPLE_NAME + target)
 }

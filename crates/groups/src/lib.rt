@@ -10,6 +10,7 @@ use edge_runs::Runs;
 use graph::packing::{ARM_NAME, NODE_CLASS, NODE_NUMBER, NUMBERS};
 
 // The numbers of the nodes of the class, put into the array.
+// Kept: a count beside the array says how much of it is filled, since there is no heap to collect them in.
 pub fn numbers_of<'a>(nodes: &[u64], class: u64, numbers: &'a mut [u64]) -> &'a [u64]
     requires { length nodes.now ≤ length numbers.old }
     ensures { result.now ≡ numbers_of class nodes.now }
@@ -24,25 +25,34 @@ pub fn numbers_of<'a>(nodes: &[u64], class: u64, numbers: &'a mut [u64]) -> &'a 
     &numbers[..count]
 }
 
-// Arms to the group of which the image at `i` is the smallest member, put into the array; none where an image before it has the same targets.
-pub fn arms_led_by<'a>(images: &Runs, i: usize, b: u64, arms: &'a mut [u64]) -> &'a [u64]
-    requires images_value { keys_rise images.now.numbers.now ≡ true }
-    requires b_bound { b < 2 ^ 6 }
-    requires images_in_bounds { length images.now.numbers.now ≤ length arms.old }
-    requires i_in_bounds { i < length images.now.numbers.now }
-    ensures { result.now
-        ≡ arms_led_by images.now.edges.now images.now.name b images.now.numbers.now (images.now.numbers.now ! i) }
-{
-    let keys = images.run(i);
-    let mut count = 0;
-    for (j, image) in images.numbers.iter().enumerate() {
-        if images.has(j, keys) {
-            if j < i {
-                return &[];
+// Runs of images, which rise.
+#[derive(Clone, Copy)]
+pub struct Images<'e, 'n, 's> {
+    pub runs: Runs<'e, 'n, 's>,
+    pub ghost rise: { keys_rise runs.numbers.now ≡ true },
+}
+
+impl<'e, 'n, 's> Images<'e, 'n, 's> {
+    // Arms to the group of which the image at `i` is the smallest member, put into the array; none where an image before it has the same targets.
+    // Kept: a count beside the array, as no heap holds the arms, and the place of each image, which is compared with `i`.
+    pub fn arms_led_by<'a>(&self, i: usize, b: u64, arms: &'a mut [u64]) -> &'a [u64]
+        requires b_bound { b < 2 ^ 6 }
+        requires images_in_bounds { length self.now.runs.numbers.now ≤ length arms.old }
+        requires i_in_bounds { i < length self.now.runs.numbers.now }
+        ensures { let runs = self.now.runs in
+            result.now ≡ arms_led_by runs.edges.keys.now runs.name b runs.numbers.now (runs.numbers.now ! i) }
+    {
+        let keys = self.runs.run(i);
+        let mut count = 0;
+        for (j, image) in self.runs.numbers.iter().enumerate() {
+            if self.runs.has(j, keys) {
+                if j < i {
+                    return &[];
+                }
+                arms[count] = b * ARM_NAME + *image;
+                count += 1;
             }
-            arms[count] = b * ARM_NAME + *image;
-            count += 1;
         }
+        &arms[..count]
     }
-    &arms[..count]
 }

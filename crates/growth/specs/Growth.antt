@@ -1,5 +1,5 @@
 -- What a new node makes of an instance.
-use Rattle.std.specs.Prelude.{ℕ, ◌^◌, ◌≤◌, ◌≡◌, true, cond, List, map, length, take, leb, ltb, Result, Ok, Err, IfOk}
+use Rattle.std.specs.Prelude.{ℕ, ◌^◌, ◌≤◌, ◌≡◌, true, cond, List, map, take, leb, ltb, Result, Ok, Err}
 use Rattle.std.specs.Bool.{⊤}
 use Rattle.lists.specs.Lists.{Below}
 use Rattle.model.specs.Limits
@@ -24,21 +24,19 @@ verdict_for order number size =
 abbrev pub judged : Result ⊤ Refusal → Instance → Outcome Instance
 judged v d = outcome (λ _. d) v
 
--- an instance that is changed: what the change makes of it, and that it has room
-pub record Makes (o : Outcome Instance) (changed : Result PackedInstance Refusal) : Type 0 where
-  pub fits : IfOk changed Fits
-  pub makes : outcome unpack_instance changed ≡ o
+-- an instance that is changed in place: what the change makes of it, and that it has room, also after a refusal
+pub record Makes (o : Outcome Instance) (v : Result ⊤ Refusal) (new : PackedInstance) : Type 0 where
+  pub fits : Fits new
+  pub makes : judged v (unpack_instance new) ≡ o
 
 -- an instance that may grow
 pub record Addable (d : PackedInstance) : Type 0 where
-  pub node_room : length d.nodes ≡ Limits.nodes
-  pub edge_room : length d.edges ≡ Limits.edges
   pub few_nodes : d.order ≤ Limits.nodes
   pub few_edges : d.size ≤ Limits.edges
   pub nodes_rise : keys_rise (take d.order d.nodes) ≡ true
   pub nodes_below : Below (2 ^ 54) (take d.order d.nodes)
 
--- a new node, or a refusal
+-- a new node, or a refusal: the instance may grow on
 pub record Grows (d : PackedInstance) (class : ℕ) (arms : List ℕ) (v : Result ⊤ Refusal) (grown : PackedInstance) : Type 0 where
   pub outcome : judged v (unpack_instance grown) ≡ with_node class (map unpack_arm arms) (unpack_instance d)
-  pub addable : IfOk v (λ _. Addable grown)
+  pub addable : Addable grown

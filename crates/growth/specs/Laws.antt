@@ -1,2 +1,3 @@
 -- Laws of growth.
 pub mod Growing
+pub mod Room

@@ -3,7 +3,6 @@ use Rattle.std.specs.Prelude.{◌≤◌, ◌≡◌, List, ◌∷◌, take}
 use Rattle.model.specs.Limits
 use Rattle.graph.specs.declared.history.History.{History}
 use Rattle.graph.specs.declared.instance.PackedInstance.{PackedInstance}
-use Rattle.history.specs.declared.Popped.{Popped}
 
 -- the copies that stand
 abbrev pub copies_of : History → List PackedInstance
@@ -15,6 +14,6 @@ pub record PushedOn (h : History) (d : PackedInstance) (r : History) : Type 0 wh
   pub few : r.depth ≤ Limits.copies
 
 -- "Undo takes the head copy off the list"
-pub record PoppedOff (h : History) (r : Popped) : Type 0 where
-  pub popped : copies_of h ≡ r.instance ∷ copies_of r.history
-  pub few : r.history.depth ≤ Limits.copies
+pub record PoppedOff (h : History) (newest : PackedInstance) (r : History) : Type 0 where
+  pub popped : copies_of h ≡ newest ∷ copies_of r
+  pub few : r.depth ≤ Limits.copies

@@ -1,2 +1,3 @@
 -- Laws of the undo history.
 pub mod Copies
+pub mod Moves

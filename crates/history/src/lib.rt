@@ -1,4 +1,4 @@
-// The undo history, newest first: an instance put before the copies, and the newest copy taken off.
+// The undo history, newest first: an instance put before the copies, and the newest copy taken off, in place.
 #![tactic(auto)]
 
 ghost use Rattle.std.specs.Prelude.{◌<◌, ◌≤◌};
@@ -8,35 +8,24 @@ ghost use Rattle.history.specs.Histories.{PushedOn, PoppedOff};
 use graph::history::History;
 use graph::instance::PackedInstance;
 
-#[derive(Clone, Copy)]
-pub struct Popped {
-    pub instance: PackedInstance,
-    pub history: History,
-}
-
 // The last of eight copies is lost. Only the copies that stand are moved.
-pub fn push(history: History, instance: PackedInstance) -> History
-    requires { history.depth ≤ Limits.copies }
-    ensures { PushedOn history instance result }
+pub fn push(history: &mut History, instance: &PackedInstance)
+    requires { history.old.depth ≤ Limits.copies }
+    ensures { PushedOn history.old instance.now history.new }
 {
-    let mut copies = history.copies;
     let depth = (history.depth + 1).min(History::COPIES);
-    copies.copy_within(0..depth - 1, 1);
-    copies[0] = instance;
-    History { copies, depth }
+    history.copies.copy_within(0..depth - 1, 1);
+    history.copies[0] = *instance;
+    history.depth = depth;
 }
 
-pub fn pop(history: History) -> Popped
-    requires depth_nonzero { 0 < history.depth }
-    requires depth_bound { history.depth ≤ Limits.copies }
-    ensures { PoppedOff history result }
+pub fn pop(history: &mut History) -> PackedInstance
+    requires depth_nonzero { 0 < history.old.depth }
+    requires depth_bound { history.old.depth ≤ Limits.copies }
+    ensures { PoppedOff history.old result history.new }
 {
-    let mut copies = history.copies;
-    let newest = copies[0];
-    let depth = history.depth - 1;
-    copies.copy_within(1..history.depth, 0);
-    Popped {
-        instance: newest,
-        history: History { copies, depth },
-    }
+    let newest = history.copies[0];
+    history.copies.copy_within(1..history.depth, 0);
+    history.depth -= 1;
+    newest
 }

@@ -5,33 +5,23 @@
 
 ghost use Rattle.std.specs.Prelude.{◌≡◌, ◌≤◌, take, IfOk};
 ghost use Rattle.model.specs.Meaning.{most_of_drawing};
-ghost use Rattle.graph.specs.Packed.{unpack_scheme, StoredScheme, StoredInstance};
+ghost use Rattle.model.specs.Files.DrawingFile.{read_drawing};
+ghost use Rattle.inspect.specs.Opened.{OpenAfter};
 
-use files::{argument, load};
-use graph::instance::PackedInstance;
-use graph::scheme::PackedScheme;
-use model::Refusal;
-use reading::drawing::{Drawing, read_drawing};
+use files::{Arguments, NAME, load};
+use graph::rule::PackedRule;
+use reading::ENOUGH;
+use reading::drawing::{Whole, read_drawing};
 use rules::read_rule;
 use std::io;
 use std::rt::Files;
 use writing::save::save;
-
-// The most bytes that a name has.
-const NAME: usize = 64;
-
-// The first so many bytes of a text decide how it is read.
-const ENOUGH: usize = 20106;
 
 // No drawing file has more bytes.
 const FILE: usize = 20032;
 
 // What stands in a buffer before it is lent: a byte that no drawing file has.
 const BLANK: u8 = b'.';
-
-fn print_refused(rt: &impl Print, refusal: Refusal) -> io::Result<()> {
-    println!(rt; " refused={}", table::row(refusal))
-}
 
 // How many bytes at the front are as they were before the buffer was lent.
 fn blanks(s: &[u8]) -> usize {
@@ -51,155 +41,102 @@ fn same(a: &[u8], b: &[u8]) -> usize
 }
 
 // Saves into a buffer that is too short, and prints the refusal and how many bytes were left alone.
-fn print_short(
-    rt: &impl Print,
-    scheme: PackedScheme,
-    instance: PackedInstance,
-    buf: &mut [u8],
-) -> io::Result<()>
-    requires stored_scheme { StoredScheme scheme }
-    requires stored_instance { StoredInstance (unpack_scheme scheme) instance }
-{
-    if let Err(refusal) = save(scheme, instance, buf) {
+fn print_short(rt: &impl Print, whole: &Whole, buf: &mut [u8]) -> io::Result<()> {
+    if let Err(refusal) = save(&whole.scheme, &whole.instance, buf) {
         print!(rt; " short={} kept={}", table::row(refusal), blanks(buf))?;
     }
     Ok(())
 }
 
 // Saves into a buffer of exactly the file's length, and prints how many bytes are those of the text that was read.
-fn print_same(
-    rt: &impl Print,
-    scheme: PackedScheme,
-    instance: PackedInstance,
-    text: &[u8],
-    buf: &mut [u8],
-) -> io::Result<()>
-    requires stored_scheme { StoredScheme scheme }
-    requires stored_instance { StoredInstance (unpack_scheme scheme) instance }
-{
-    if let Ok(_) = save(scheme, instance, buf) {
+fn print_same(rt: &impl Print, whole: &Whole, text: &[u8], buf: &mut [u8]) -> io::Result<()> {
+    if save(&whole.scheme, &whole.instance, buf).is_ok() {
         print!(rt; " same={}", same(text, buf))?;
     }
     Ok(())
 }
 
 // Into a buffer that is one byte too short, and one that is just long enough. None is too short for an empty file.
-fn save_closely(
-    rt: &impl Print,
-    scheme: PackedScheme,
-    instance: PackedInstance,
-    text: &[u8],
-    length: usize,
-) -> io::Result<()>
-    requires stored_scheme { StoredScheme scheme }
-    requires stored_instance { StoredInstance (unpack_scheme scheme) instance }
-    requires length_le_most_of_drawing { length ≤ most_of_drawing }
+fn save_closely(rt: &impl Print, whole: &Whole, text: &[u8], length: usize) -> io::Result<()>
+    requires { length ≤ most_of_drawing }
 {
     let mut short = [BLANK; FILE];
-    let less = length.saturating_sub(1);
-    print_short(rt, scheme, instance, &mut short[..less])?;
+    print_short(rt, whole, &mut short[..length.saturating_sub(1)])?;
     let mut exact = [BLANK; FILE];
-    print_same(rt, scheme, instance, text, &mut exact[..length])
+    print_same(rt, whole, text, &mut exact[..length])
 }
 
 // Also how many bytes after the file are as they were.
-fn show_saved(
-    rt: &impl Print,
-    scheme: PackedScheme,
-    instance: PackedInstance,
-    text: &[u8],
-) -> io::Result<()>
-    requires stored_scheme { StoredScheme scheme }
-    requires stored_instance { StoredInstance (unpack_scheme scheme) instance }
-{
+fn show_saved(rt: &impl Print, whole: &Whole, text: &[u8]) -> io::Result<()> {
     let mut buf = [BLANK; FILE];
-    if let Ok(saved) = save(scheme, instance, &mut buf) {
+    if let Ok(saved) = save(&whole.scheme, &whole.instance, &mut buf) {
         let length = saved as usize;
         print!(rt; " saved={length} rest={}", blanks(&buf[length..]))?;
-        save_closely(rt, scheme, instance, text, length)?;
+        save_closely(rt, whole, text, length)?;
     }
     Ok(())
 }
 
-fn print_opened(
-    rt: &impl Print,
-    scheme: PackedScheme,
-    instance: PackedInstance,
-    text: &[u8],
-) -> io::Result<()>
-    requires stored_scheme { StoredScheme scheme }
-    requires stored_instance { StoredInstance (unpack_scheme scheme) instance }
-{
+fn print_opened(rt: &impl Print, whole: &Whole, text: &[u8]) -> io::Result<()> {
+    let scheme = &whole.scheme;
     print!(rt;
         " opened={},{}",
         scheme.classes.count(),
         scheme.names.count()
     )?;
-    show_saved(rt, scheme, instance, text)?;
-    rt.write_all(b"\n")
+    show_saved(rt, whole, text)?;
+    println!(rt)
 }
 
-// The scheme that is open after the file.
-fn show_drawing(rt: &impl Print, text: &[u8], before: PackedScheme) -> io::Result<PackedScheme>
-    requires { StoredScheme before }
-    ensures { IfOk result StoredScheme }
+// What is open after the file: what it makes, or, where it is refused, what was open before.
+fn show_drawing(rt: &impl Print, text: &[u8], before: Whole) -> io::Result<Whole>
+    ensures { IfOk result (OpenAfter (read_drawing text.now) before) }
 {
     match read_drawing(text) {
-        Ok(Drawing { scheme, instance }) => {
-            print_opened(rt, scheme, instance, text)?;
-            Ok(scheme)
+        Ok(whole) => {
+            print_opened(rt, &whole, text)?;
+            Ok(whole)
         }
         Err(refusal) => {
-            print_refused(rt, refusal)?;
+            println!(rt; " refused={}", table::row(refusal))?;
             Ok(before)
         }
     }
 }
 
-fn show_rule(rt: &impl Print, text: &[u8], scheme: PackedScheme) -> io::Result<()>
-    requires { StoredScheme scheme }
-{
-    match read_rule(text, scheme) {
+fn show_rule(rt: &impl Print, text: &[u8], open: &Whole) -> io::Result<()> {
+    match read_rule(text, &open.scheme) {
         Ok(rule) => {
-            let pattern = rule.pattern;
-            print!(rt; " op={}", rule.action.operation as u64)?;
+            let PackedRule { pattern, action } = rule;
+            print!(rt; " op={}", u64::from(action.operation))?;
             print!(rt; " pnodes={} pedges={}", pattern.order, pattern.size)?;
-            println!(rt; " head={} parts={}", rule.action.head, rule.action.count)
+            println!(rt; " head={} parts={}", action.head, action.count)
         }
-        Err(refusal) => print_refused(rt, refusal),
+        Err(refusal) => println!(rt; " refused={}", table::row(refusal)),
     }
 }
 
-// The scheme that is open after the file that is named.
-fn show_file(
-    rt: &(impl Files + Print + Eprint),
-    name: &[u8],
-    scheme: PackedScheme,
-) -> io::Result<PackedScheme>
-    requires { StoredScheme scheme }
-    ensures { IfOk result StoredScheme }
-{
+// What is open after the file that is named.
+fn show_file(rt: &(impl Files + Print + Eprint), name: &[u8], open: Whole) -> io::Result<Whole> {
     let mut text = [0u8; ENOUGH];
     let Some(length) = load(rt, name, &mut text) else {
-        return Ok(scheme)
+        return Ok(open)
     };
+    // Kept: `write_all` and no `print!`, since a name is bytes and maybe no UTF-8.
     rt.write_all(name)?;
     if name.starts_with(b"r") {
-        show_rule(rt, &text[..length], scheme)?;
-        Ok(scheme)
+        show_rule(rt, &text[..length], &open)?;
+        Ok(open)
     } else {
-        show_drawing(rt, &text[..length], scheme)
+        show_drawing(rt, &text[..length], open)
     }
 }
 
 fn main(rt: HostRuntime) -> io::Result<()> {
-    let mut scheme = PackedScheme::new();
-    for i in 1..usize::MAX {
-        let mut name = [0u8; NAME];
-        let Some(length) = argument(&rt, i, &mut name) else {
-            break
-        };
-        scheme = show_file(&rt, &name[..length], scheme)?;
+    let mut open = Whole::new();
+    let names: Arguments<_, NAME> = Arguments::new(&rt);
+    for name in names {
+        open = show_file(&rt, name.bytes(), open)?;
     }
     Ok(())
 }

@@ -1,2 +1,3 @@
 -- Laws of rising keys.
 pub mod Keys
+pub mod Shifting

@@ -2,156 +2,101 @@
 // listed by first and after; how many a walk visits and how many images it notes; and what comes after lists that are no matchings.
 #![tactic(auto)]
 
-ghost use Rattle.graph.specs.Packed.{unpack_scheme, StoredScheme, StoredInstance};
-ghost use Rattle.matcher.specs.Matchers.{Stored};
-
-use console::print_first;
-use files::{argument, load};
-use graph::instance::PackedInstance;
+use files::{Arguments, NAME, load};
 use graph::pattern::PackedPattern;
-use graph::scheme::PackedScheme;
-use matcher::listing::{Matching, after, first, visit_all};
+use matcher::listing::{Matching, Matchings};
 use model::Refusal;
 use notes::{Notes, Noting};
-use reading::drawing::{Drawing, read_drawing};
+use reading::ENOUGH;
+use reading::drawing::{Whole, read_drawing};
 use rules::read_rule;
 use std::io;
-use std::rt::{Env, Files};
-
-// The most bytes that a name has.
-const NAME: usize = 64;
+use std::rt::Files;
 
 // How often after is asked in a listing, so that at most 101 matchings are printed.
 const LISTED: usize = 100;
 
-// The first so many bytes of a text decide how it is read.
-const ENOUGH: usize = 20106;
-
-fn print_refused(rt: &impl Print, refusal: Refusal) -> io::Result<()> {
-    print!(rt; " refused={}", table::row(refusal))
-}
-
 fn print_given(rt: &impl Print, given: Result<Option<Matching>, Refusal>) -> io::Result<()> {
     match given {
-        Ok(Some(matching)) => {
-            print_first(rt, b" (", &matching.numbers, matching.length)?;
-            rt.write_all(b")")
-        }
-        Ok(None) => rt.write_all(b" none"),
-        Err(refusal) => print_refused(rt, refusal),
+        Ok(Some(matching)) => print!(rt; " ({matching})"),
+        Ok(None) => print!(rt; " none"),
+        Err(refusal) => print!(rt; " refused={}", table::row(refusal)),
     }
 }
 
-fn print_listing(
-    rt: &impl Print,
-    instance: PackedInstance,
-    pattern: PackedPattern,
-) -> io::Result<()>
-    requires { Stored instance pattern }
-{
-    let mut given = Ok(first(instance, pattern));
+fn print_listing(rt: &impl Print, matchings: Matchings) -> io::Result<()> {
+    let mut given = Ok(matchings.first());
     print_given(rt, given)?;
     for _ in 0..LISTED {
         let Ok(Some(matching)) = given else { break };
-        given = after(instance, pattern, &matching.numbers[..pattern.order]);
+        given = matchings.after(&matching.numbers[..matchings.pattern.order]);
         print_given(rt, given)?;
     }
     Ok(())
 }
 
 // A walk that notes nothing, and for each pattern node one that notes its images.
-fn print_visits(rt: &impl Print, instance: PackedInstance, pattern: PackedPattern) -> io::Result<()>
-    requires { Stored instance pattern }
-{
+fn print_visits(rt: &impl Print, matchings: Matchings) -> io::Result<()> {
     let mut none = Notes::new();
-    let visits = visit_all(instance, pattern, Noting::Nothing, &mut none);
+    let visits = matchings.visit_all(Noting::Nothing, &mut none);
     print!(rt; " visits={visits} marks={}", none.count())?;
-    for q in 0..pattern.order as u64 {
+    for q in 0..matchings.pattern.order as u64 {
         let mut images = Notes::new();
-        visit_all(instance, pattern, Noting::Node(q), &mut images);
+        matchings.visit_all(Noting::Node(q), &mut images);
         print!(rt; ",{}", images.count())?;
     }
     Ok(())
 }
 
-fn print_after(
-    rt: &impl Print,
-    instance: PackedInstance,
-    pattern: PackedPattern,
-    number: u64,
-) -> io::Result<()>
-    requires { Stored instance pattern }
-{
+fn print_after(rt: &impl Print, matchings: Matchings, number: u64) -> io::Result<()> {
     let list = [number; PackedPattern::NODES + 1];
     print!(rt; " after={number}")?;
-    print_given(rt, after(instance, pattern, &list[..pattern.order]))
+    print_given(rt, matchings.after(&list[..matchings.pattern.order]))
 }
 
-fn show_pattern(rt: &impl Print, instance: PackedInstance, pattern: PackedPattern) -> io::Result<()>
-    requires { Stored instance pattern }
-{
-    print_listing(rt, instance, pattern)?;
-    print_visits(rt, instance, pattern)?;
+fn show_matchings(rt: &impl Print, matchings: Matchings) -> io::Result<()> {
+    print_listing(rt, matchings)?;
+    print_visits(rt, matchings)?;
     for number in [0, 4, 5, u64::MAX] {
-        print_after(rt, instance, pattern, number)?;
+        print_after(rt, matchings, number)?;
     }
-    print_given(rt, after(instance, pattern, &[0; PackedPattern::NODES + 1]))?;
-    rt.write_all(b"\n")
+    print_given(rt, matchings.after(&[0; PackedPattern::NODES + 1]))?;
+    println!(rt)
 }
 
-fn show_rule(
-    rt: &(impl Files + Print + Eprint),
-    scheme: PackedScheme,
-    instance: PackedInstance,
-    name: &[u8],
-) -> io::Result<()>
-    requires stored_scheme { StoredScheme scheme }
-    requires stored_instance { StoredInstance (unpack_scheme scheme) instance }
-{
+fn show_rule(rt: &(impl Files + Print + Eprint), whole: &Whole, name: &[u8]) -> io::Result<()> {
     let mut text = [0u8; ENOUGH];
     let Some(length) = load(rt, name, &mut text) else {
         return Ok(())
     };
+    // Kept: `write_all` and no `print!`, since a name is bytes and maybe no UTF-8.
     rt.write_all(name)?;
-    match read_rule(&text[..length], scheme) {
-        Ok(rule) => show_pattern(rt, instance, rule.pattern),
-        Err(refusal) => {
-            print_refused(rt, refusal)?;
-            rt.write_all(b"\n")
-        }
+    match read_rule(&text[..length], &whole.scheme) {
+        Ok(rule) => show_matchings(
+            rt,
+            Matchings {
+                instance: &whole.instance,
+                pattern: &rule.pattern,
+            },
+        ),
+        Err(refusal) => println!(rt; " refused={}", table::row(refusal)),
     }
-}
-
-fn show_rules(
-    rt: &(impl Env + Files + Print + Eprint),
-    scheme: PackedScheme,
-    instance: PackedInstance,
-) -> io::Result<()>
-    requires stored_scheme { StoredScheme scheme }
-    requires stored_instance { StoredInstance (unpack_scheme scheme) instance }
-{
-    for i in 2..usize::MAX {
-        let mut name = [0u8; NAME];
-        let Some(length) = argument(rt, i, &mut name) else {
-            break
-        };
-        show_rule(rt, scheme, instance, &name[..length])?;
-    }
-    Ok(())
 }
 
 fn main(rt: HostRuntime) -> io::Result<()> {
-    let mut name = [0u8; NAME];
-    let named = argument(&rt, 1, &mut name).unwrap_or(0);
+    let mut names: Arguments<_, NAME> = Arguments::new(&rt);
+    let job = names.next().unwrap_or_default();
     let mut text = [0u8; ENOUGH];
-    let Some(length) = load(&rt, &name[..named], &mut text) else {
+    let Some(length) = load(&rt, job.bytes(), &mut text) else {
         return Ok(())
     };
     match read_drawing(&text[..length]) {
-        Ok(Drawing { scheme, instance }) => show_rules(&rt, scheme, instance),
-        Err(refusal) => {
-            print_refused(&rt, refusal)?;
-            rt.write_all(b"\n")
+        Ok(whole) => {
+            for name in names {
+                show_rule(&rt, &whole, name.bytes())?;
+            }
+            Ok(())
         }
+        Err(refusal) => println!(rt; " refused={}", table::row(refusal)),
     }
 }

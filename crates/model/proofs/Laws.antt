@@ -70,3 +70,6 @@ pub mod Record
 pub mod Refusals
 -- first-part-decides
 pub mod FirstParts
+-- # Numbers as they are printed
+-- numeral-printed
+pub mod Printed

@@ -2,6 +2,10 @@
 // (specs/Refusals.antt), and in code `table`.
 #![tactic(auto)]
 
+ghost use Rattle.std.specs.Prelude.{Some, [], ◌∷◌};
+ghost use Rattle.model.specs.Files.{commas};
+ghost use Rattle.model.specs.Record.{counted, report_numbers};
+
 use std::fmt;
 
 // The fourteen rows of "When the engine declines", in their order, each with what the call returns.
@@ -23,7 +27,8 @@ pub enum Refusal {
     LengthDiffers { length: u64 },
 }
 
-// A row of the table: the number of a refusal, and what the call returns with it.
+// A row of the table: the number of a refusal, and what the call returns with it. It prints as the numbers of a line.
+// Kept: two numbers as `Opened` and `Difference` are, of another meaning; one type for all would take the one for the other.
 #[derive(Clone, Copy)]
 pub struct Row {
     pub number: u64,
@@ -31,19 +36,33 @@ pub struct Row {
 }
 
 impl fmt::Display for Row {
+    ghost output = { λ row. Some (commas (row.number ∷ row.returned ∷ [])) };
+
     fn fmt<W: fmt::Write>(&self, f: &mut fmt::Formatter<W>) -> fmt::Result {
-        write!(f, "{},{}", self.number, self.returned)
+        let Row { number, returned } = *self;
+        write!(f, "{number},{returned}")
     }
 }
 
 // Open reports how many classes and how many names were declared.
+// Kept: two numbers as those of `Row`, of another meaning.
 #[derive(Clone, Copy)]
 pub struct Opened {
     pub classes: u64,
     pub names: u64,
 }
 
+impl fmt::Display for Opened {
+    ghost output = { λ o. Some (commas (o.classes ∷ o.names ∷ [])) };
+
+    fn fmt<W: fmt::Write>(&self, f: &mut fmt::Formatter<W>) -> fmt::Result {
+        let Opened { classes, names } = *self;
+        write!(f, "{classes},{names}")
+    }
+}
+
 // How many nodes and edges one of two instances has and the other has not.
+// Kept: two numbers as those of `Row`, of another meaning.
 #[repr(C)]
 #[derive(Clone, Copy)]
 pub struct Difference {
@@ -58,6 +77,32 @@ pub struct Counts {
     pub matchings: u64,
     pub added: Difference,
     pub removed: Difference,
+}
+
+impl Counts {
+    // What a refused apply reports.
+    pub const NONE: Counts = Counts {
+        matchings: 0,
+        added: Difference { nodes: 0, edges: 0 },
+        removed: Difference { nodes: 0, edges: 0 },
+    };
+}
+
+impl fmt::Display for Counts {
+    ghost output = { λ c. Some (commas (report_numbers (counted c))) };
+
+    fn fmt<W: fmt::Write>(&self, f: &mut fmt::Formatter<W>) -> fmt::Result {
+        let Counts { matchings, .. } = *self;
+        let Difference { nodes, edges } = self.added;
+        let Difference {
+            nodes: removed_nodes,
+            edges: removed_edges,
+        } = self.removed;
+        write!(
+            f,
+            "{matchings},{nodes},{edges},{removed_nodes},{removed_edges}"
+        )
+    }
 }
 
 pub type OpenAnswer = Result<Opened, Refusal>;

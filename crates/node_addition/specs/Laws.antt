@@ -3,3 +3,4 @@ pub mod Adding
 pub mod Keyed
 pub mod Targets
 pub mod Turns
+pub mod Start

@@ -20,6 +20,7 @@ fn arms_to(arms: &[u64], key: u64, to: &mut [u64])
     ensures { to.new ≡ arms_to arms.now key }
 {
     let mut left = key;
+    // Kept: over `arms.iter().zip(to).rev()` the proof did not close: it has to tell what each borrowed place holds in the end.
     for i in (0..arms.len()).rev() {
         to[i] = arms[i] / ARM_NAME * ARM_NAME + left % NODE_NUMBERS;
         left /= NODE_NUMBERS;
@@ -28,22 +29,21 @@ fn arms_to(arms: &[u64], key: u64, to: &mut [u64])
 
 // A new node for each key in turn.
 pub fn with_nodes(
-    instance: PackedInstance,
+    instance: &mut PackedInstance,
     class: u64,
     arms: Arms,
     keys: &[u64],
-) -> Result<PackedInstance, Refusal>
-    requires addable { Addable instance }
+) -> Result<(), Refusal>
+    requires addable { Addable instance.old }
     requires class_bound { class < 2 ^ 6 }
     requires below { Below (2 ^ 22) arms.parts.now }
-    ensures { Makes (added_for class arms.entry.parts.now keys.now (unpack_instance instance)) result }
+    ensures { Makes (added_for class arms.entry.parts.now keys.now (unpack_instance instance.old)) result instance.new }
 {
-    let mut grown = instance;
     let mut to = [0; PackedAction::PARTS];
     let to = &mut to[..arms.parts.len()];
     for key in keys {
         arms_to(arms.parts, *key, to);
-        add_node(&mut grown, class, to)?;
+        add_node(instance, class, to)?;
     }
-    Ok(grown)
+    Ok(())
 }

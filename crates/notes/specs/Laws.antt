@@ -2,3 +2,4 @@
 pub mod Noting
 pub mod Images
 pub mod Kept
+pub mod InTurn

@@ -6,7 +6,7 @@ ghost use Rattle.std.specs.Prelude.{◌≡◌, [], length};
 ghost use Rattle.notes.specs.Notes.{note, note_all, sorted};
 
 use graph::instance::PackedInstance;
-use keys::insert;
+use keys::{Rising, insert};
 pub use noting::{Arms, Noting};
 use std::marker::Model;
 
@@ -61,10 +61,12 @@ impl Notes {
     }
 
     // The keys as they rise.
-    pub fn rising(&self) -> &[u64]
-        ensures { result.now ≡ sorted self.now }
+    pub fn rising(&self) -> Rising
+        ensures { result.keys.now ≡ sorted self.now }
     {
-        &self.rising[..self.count]
+        Rising {
+            keys: &self.rising[..self.count],
+        }
     }
 
     // Notes a key, unless it is noted already or there is no room.

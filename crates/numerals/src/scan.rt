@@ -3,6 +3,7 @@ ghost use Rattle.std.specs.Prelude.{◌≡◌};
 ghost use Rattle.numerals.specs.Scan.{up_to, numeral_below};
 
 // How many bytes stand before the first `byte`: all where it is not there.
+// Kept: a number and no `Option`, since it is `up_to`, by which lines are taken apart: what stands before a byte that is not there is all.
 pub fn find(s: &[u8], byte: u8) -> usize
     ensures { result ≡ up_to byte s.now }
 {
@@ -10,6 +11,7 @@ pub fn find(s: &[u8], byte: u8) -> usize
 }
 
 // "A number has no sign and no leading zero." The value stops at `below`, so that it never wraps, however long the numeral is.
+// Kept: no `parse` of the library, which takes a sign and leading zeros, and knows no bound at which to stop.
 pub fn numeral_below(s: &[u8], below: u32) -> Option<u64>
     ensures { result ≡ numeral_below below s.now }
 {

@@ -14,7 +14,7 @@ use graph::instance::PackedInstance;
 use graph::packing::{GROUP_A, GROUP_CLASS, NUMBERS};
 use graph::rule::{Operation, PackedRule};
 use graph::scheme::PackedScheme;
-use matcher::listing::visit_all;
+use matcher::listing::Matchings;
 use model::Refusal;
 use node_addition::with_nodes;
 use notes::{Arms, Notes};
@@ -24,25 +24,31 @@ use rule_notes::{begin, noting};
 // What is made of the notes, of which the first `begun` were noted before the walk: new nodes for the others; the old edges and the images together
 // as the new edges; without the images, and the edges at them; or new nodes for groups of the images.
 fn finish(
-    scheme: PackedScheme,
-    instance: PackedInstance,
+    scheme: &PackedScheme,
+    instance: &mut PackedInstance,
     rule: &PackedRule,
     begun: usize,
     notes: &Notes,
-) -> Result<PackedInstance, Refusal>
-    requires { Walked scheme instance rule.now begun notes.now }
-    ensures { Makes (applied (unpack_scheme scheme) (unpack_rule rule.now) (unpack_instance instance)) result }
+) -> Result<(), Refusal>
+    requires { Walked scheme.now instance.old rule.now begun notes.now }
+    ensures { Makes (applied (unpack_scheme scheme.now) (unpack_rule rule.now) (unpack_instance instance.old)) result instance.new }
 {
     let head = rule.action.head;
     match rule.action.operation {
-        Operation::PatternOnly => Ok(instance),
+        Operation::PatternOnly => Ok(()),
         Operation::NodeAddition => {
             let parts = &rule.action.parts[..rule.action.count];
             with_nodes(instance, head, Arms { parts }, &notes.coming()[begun..])
         }
         Operation::EdgeAddition => with_edges(scheme, instance, notes.rising()),
-        Operation::NodeDeletion => Ok(without_nodes(instance, notes.rising())),
-        Operation::EdgeDeletion => Ok(without_edges(instance, notes.rising())),
+        Operation::NodeDeletion => {
+            without_nodes(instance, notes.rising().keys);
+            Ok(())
+        }
+        Operation::EdgeDeletion => {
+            without_edges(instance, notes.rising());
+            Ok(())
+        }
         Operation::Abstraction => with_groups(
             instance,
             head / GROUP_CLASS % NUMBERS,
@@ -55,17 +61,22 @@ fn finish(
 
 // Applies an accepted rule to an instance.
 pub fn apply(
-    scheme: PackedScheme,
-    instance: PackedInstance,
-    rule: PackedRule,
+    scheme: &PackedScheme,
+    instance: &PackedInstance,
+    rule: &PackedRule,
 ) -> Result<Applied, Refusal>
-    requires stored_instance { StoredInstance (unpack_scheme scheme) instance }
-    requires stored_rule { StoredRule (unpack_scheme scheme) rule }
-    ensures { Applies scheme instance rule result }
+    requires stored_instance { StoredInstance (unpack_scheme scheme.now) instance.now }
+    requires stored_rule { StoredRule (unpack_scheme scheme.now) rule.now }
+    ensures { Applies scheme.now instance.now rule.now result }
 {
-    let mut notes = begin(&instance, &rule.action);
+    let mut notes = begin(instance, &rule.action);
     let begun = notes.count();
-    let matchings = visit_all(instance, rule.pattern, noting(&rule.action), &mut notes);
-    let changed = finish(scheme, instance, &rule, begun, &notes);
-    report(instance, matchings, changed)
+    let matchings = Matchings {
+        instance,
+        pattern: &rule.pattern,
+    }
+    .visit_all(noting(&rule.action), &mut notes);
+    let mut new = *instance;
+    let changed = finish(scheme, &mut new, rule, begun, &notes);
+    report(instance, matchings, changed, new)
 }

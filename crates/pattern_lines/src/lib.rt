@@ -15,6 +15,7 @@ use model::Refusal;
 use verdicts::above::Above;
 use verdicts::edge_conforms;
 
+// Kept: classes and nodes one by one: `Above` would ask callers for permitted triples that rise too.
 #[tactic(auto, using(verdicts::proofs::Laws::Tests::Judging, crate::specs::Laws::PatternChecks::PatternTests), unfolding(crate::specs::PatternLines::pnode_checks))]
 pub fn check_pnode(
     classes: Declarations,
@@ -52,7 +53,9 @@ pub fn class_at(nodes: &[u64], i: usize) -> u64
     nodes[i] / PNODE_CLASS % NUMBERS
 }
 
+// Kept: `above`, row and line one by one: a struct of the three would be made and taken apart at each call.
 #[tactic(auto, using(verdicts::proofs::Laws::Tests::Judging, crate::specs::Laws::PatternChecks::PatternTests), unfolding(crate::specs::PatternLines::pedge_checks))]
+// Kept: two classes are looked up here and in `check_put`, in three lines: a helper would give them as a pair with a contract of its own.
 pub fn check_pedge(above: &Above, edge: u64, line: u64) -> Result<(), Refusal>
     ensures { result ≡ judged line (pedge_checks (scheme_above above.now) (pattern_above above.now) (unpack_triple edge)) }
 {

@@ -17,6 +17,7 @@ fn numbers_of(kind: LineKind, row: u64) -> [u64; Form::NUMBERS]
     let form = kind.form();
     let mut numbers = [0; Form::NUMBERS];
     let mut rest = row;
+    // Kept: one place for both arrays says it; `numbers[1..n].iter_mut().zip(&form.room[1..n]).rev()` names the same two parts twice.
     for place in (1..form.numbers).rev() {
         let room = form.room[place];
         numbers[place] = rest % room;
@@ -38,11 +39,7 @@ fn numbers_length(numbers: &[u64]) -> usize
     requires { length numbers.now ≤ most_numbers }
     ensures { (result ≡ length (numbers_text numbers.now)) × (result ≤ most_of_numbers) }
 {
-    let mut length = 0;
-    for n in numbers {
-        length += numeral_length(*n) + 1;
-    }
-    length
+    numbers.iter().map(|n| numeral_length(*n) + 1).sum()
 }
 
 fn write_numbers(buf: &mut [u8], numbers: &[u64]) -> usize
@@ -50,6 +47,7 @@ fn write_numbers(buf: &mut [u8], numbers: &[u64]) -> usize
     ensures { Writes (numbers_text numbers.now) buf.old result buf.new }
 {
     let mut at = 0;
+    // Kept: a numeral's length is known once it is written, so `at` says where the next starts; how many are left says what ends it.
     for (place, n) in numbers.iter().enumerate() {
         at += write_numeral(&mut buf[at..], *n);
         buf[at] = ender(numbers.len() - (place + 1));

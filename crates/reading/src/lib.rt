@@ -2,3 +2,7 @@
 #![tactic(auto)]
 
 pub mod drawing;
+pub mod whole;
+
+// The first so many bytes of a drawing file, and fewer of a rule text, decide what is read of it.
+pub const ENOUGH: usize = 20106;

@@ -1,9 +1,8 @@
--- What an entry of a script keeps to, so that its call can be made and the next one read.
-use Rattle.std.specs.Prelude.{ℕ, ◌+◌, ◌≤◌}
+-- What the call of an entry keeps to, so that it can be made.
+use Rattle.std.specs.Prelude.{ℕ, Bool, true, ◌+◌, ◌&&◌, leb}
 use Rattle.model.specs.Limits
 use Rattle.replay.specs.declared.script.Call.{Call}
-use Rattle.replay.specs.declared.script.Call.TheVariants.{Change, First, After, Save}
-use Rattle.replay.specs.declared.script.Entry.{Entry}
+use Rattle.replay.specs.declared.script.Call.TheVariants.{Open, Apply, Undo, Close, First, After, Save}
 
 -- of a line's numbers, a length and one number more than any matching has are kept
 abbrev pub line_room : ℕ
@@ -14,15 +13,11 @@ abbrev pub buffer_room : ℕ
 buffer_room = 65536
 
 -- list and buffer are not longer than the room that there is for them, and a list stands behind a length
-abbrev pub Fits : Call → Type 0
-Fits (Change kind) = Unit {0}
-Fits First = Unit {0}
-Fits (After line) = (1 ≤ line.count) × (line.count ≤ line_room)
-Fits (Save length) = length ≤ buffer_room
-
--- the text ends where the next call begins, between two places of the script
-pub record EntryAt (from end : ℕ) (e : Entry) : Type 0 where
-  pub fits : Fits e.call
-  pub ordered : e.text ≤ e.next
-  pub ahead : from ≤ e.next
-  pub inside : e.next ≤ end
+abbrev pub fits : Call → Bool
+fits Open = true
+fits Apply = true
+fits Undo = true
+fits Close = true
+fits First = true
+fits (After line) = leb 1 line.count && leb line.count line_room
+fits (Save length) = leb length buffer_room

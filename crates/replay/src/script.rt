@@ -1,42 +1,54 @@
 // A script of calls, from bytes to entries: each a line, and the text that follows it.
-ghost use Rattle.std.specs.Prelude.{◌+◌, ◌<◌, ◌≤◌, length, IfSome};
-ghost use Rattle.replay.specs.Entries.{line_room, Fits, EntryAt};
+ghost use Rattle.std.specs.Prelude.{◌≡◌, ◌<◌, ◌-◌, ◌≤◌, length, true, IfSome};
+ghost use Rattle.std.specs.Iterator.{at_most};
+ghost use Rattle.replay.specs.Entries.{line_room, fits};
 
 use graph::pattern::PackedPattern;
-use runs::Kind;
 
 // The longest buffer that a script may have lent to save.
 pub const BUFFER: usize = 65536;
 
 // A length, and one number more than a pattern has nodes: a list that is longer still is refused as the first so many of its numbers are.
-pub const ROOM: usize = PackedPattern::NODES + 2;
+const ROOM: usize = PackedPattern::NODES + 2;
 
 // The numbers of a line, as many as there is room for.
+// Kept: an array with a count, since there is no heap.
 #[derive(Clone, Copy)]
 pub struct Numbers {
     pub numbers: [u64; ROOM],
     pub count: usize,
 }
 
-// A call that changes the session or one that only reads it: after with the numbers of its line, of which those after the first are its list, and
-// save with the length of its buffer.
+// The calls: after with the numbers of its line, of which those after the first are its list, and save with the length of its buffer.
 #[derive(Clone, Copy)]
 pub enum Call {
-    Change(Kind),
+    Open,
+    Apply,
+    Undo,
+    Close,
     First,
     After(Numbers),
     Save(usize),
 }
 
-// A call, and where its text and the next call begin.
+// A call, and its text.
 #[derive(Clone, Copy)]
-pub struct Entry {
+pub struct Entry<'a> {
     pub call: Call,
-    pub text: usize,
-    pub next: usize,
+    pub text: &'a [u8],
+    pub ghost fits: { fits call ≡ true },
+}
+
+// The entries of a script, one after another. In place of a malformed one comes where it begins, and then none follows.
+#[derive(Drop)]
+pub struct Entries<'a> {
+    script: &'a [u8],
+    at: usize,
+    ghost inside: { at ≤ length script.now },
 }
 
 // A number has "no sign and no leading zero". One that is too large for 64 bits is past every length and every node's number.
+// Kept: no `parse` of the library, which takes a sign and leading zeros, and gives no number where it is too large.
 fn numeral(s: &[u8]) -> Option<u64> {
     if s.is_empty() || (1 < s.len() && s[0] == b'0') {
         return None;
@@ -76,14 +88,14 @@ fn numbers_in(rest: &[u8]) -> Option<Numbers>
 // The call of a line's word and numbers.
 fn call_of(word: &[u8], line: Numbers) -> Option<Call>
     requires { line.count ≤ line_room }
-    ensures { IfSome result Fits }
+    ensures { IfSome result (λ call. fits call ≡ true) }
 {
     let number = line.numbers[0];
     match (word, line.count) {
-        (b"open", 1) => Some(Call::Change(Kind::Open)),
-        (b"apply", 1) => Some(Call::Change(Kind::Apply)),
-        (b"undo", 0) => Some(Call::Change(Kind::Undo)),
-        (b"close", 0) => Some(Call::Change(Kind::Close)),
+        (b"open", 1) => Some(Call::Open),
+        (b"apply", 1) => Some(Call::Apply),
+        (b"undo", 0) => Some(Call::Undo),
+        (b"close", 0) => Some(Call::Close),
         (b"first", 1) => Some(Call::First),
         (b"after", 1..) => Some(Call::After(line)),
         (b"save", 1) if number <= BUFFER as u64 => Some(Call::Save(number as usize)),
@@ -91,31 +103,49 @@ fn call_of(word: &[u8], line: Numbers) -> Option<Call>
     }
 }
 
-// The call that begins at a place of a script.
-pub fn call_at(script: &[u8], at: usize) -> Option<Entry>
-    requires { at < length script.now }
-    ensures { IfSome result (EntryAt (at + 1) (length script.now)) }
+// The first entry of a script, and what follows it.
+fn first_entry(script: &[u8]) -> Option<(Entry<'_>, &[u8])>
+    ensures { IfSome result (λ r. length r.1.now < length script.now) }
 {
-    let rest = &script[at..];
-    let end = rest.iter().position(|byte| *byte == b'\n')?;
-    let line = &rest[..end];
+    let end = script.iter().position(|byte| *byte == b'\n')?;
+    let line = &script[..end];
     let equals = line
         .iter()
         .position(|byte| *byte == b'=')
         .unwrap_or(line.len());
     let numbers = numbers_in(&line[equals..])?;
     let call = call_of(&line[..equals], numbers)?;
-    let text = at + end + 1;
     let taken = match call {
         Call::Save(_) => 0,
-        _ => numbers.numbers[0],
+        _ => numbers.numbers[0] as usize,
     };
-    if ((script.len() - text) as u64) < taken {
-        return None;
+    let (text, rest) = script[end + 1..].split_at_checked(taken)?;
+    Some((Entry { call, text }, rest))
+}
+
+impl<'a> Entries<'a> {
+    pub fn new(script: &'a [u8]) -> Self
+        ensures { result.at ≡ 0 }
+    {
+        Entries { script, at: 0 }
     }
-    Some(Entry {
-        call,
-        text,
-        next: text + taken as usize,
-    })
+}
+
+impl<'a> Iterator for Entries<'a> {
+    type Item = Result<Entry<'a>, usize>;
+
+    ghost remaining = { λ s. at_most (length s.script.now - s.at) };
+
+    fn next(&mut self) -> Option<Result<Entry<'a>, usize>> {
+        let at = self.at;
+        if at == self.script.len() {
+            return None;
+        }
+        let Some((entry, rest)) = first_entry(&self.script[at..]) else {
+            self.at = self.script.len();
+            return Some(Err(at));
+        };
+        self.at = self.script.len() - rest.len();
+        Some(Ok(entry))
+    }
 }

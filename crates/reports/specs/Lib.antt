@@ -1,2 +1,3 @@
--- What is reported.
+-- What is reported, and laws of it.
 pub mod Reported
+pub mod Laws

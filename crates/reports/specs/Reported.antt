@@ -1,5 +1,6 @@
 -- What is reported of an applied rule, as code counts it.
-use Rattle.std.specs.Prelude.{ℕ, ◌-◌, ◌≡◌, length, Result, Ok, Err, IfOk}
+use Rattle.std.specs.Prelude.{ℕ, ◌-◌, ◌≡◌, length, Result, Ok, Err}
+use Rattle.std.specs.Bool.{⊤}
 use Rattle.model.specs.Limits
 use Rattle.model.specs.declared.Counts.{Counts}
 use Rattle.model.specs.declared.Refusal.{Refusal}
@@ -14,17 +15,18 @@ counts_of old matchings new = record {
   removed = record { nodes = old.order - new.order; edges = old.size - new.size };
 }
 
--- a refusal leaves no instance of its own
-abbrev pub report_of : (old : PackedInstance) → (matchings : ℕ) → Result PackedInstance Refusal → Result Applied Refusal
-report_of old matchings (Ok new) = Ok (record { counts = counts_of old matchings new; instance = new })
-report_of old matchings (Err r) = Err r
+-- what is reported of an instance that was to be changed in place: a refusal is passed on, and leaves no new instance
+abbrev pub report_of : (old : PackedInstance) → (matchings : ℕ) → (changed : Result ⊤ Refusal) → (new : PackedInstance) → Result Applied Refusal
+report_of old matchings (Ok _) new = Ok (record { counts = counts_of old matchings new; instance = new })
+report_of old matchings (Err r) new = Err r
 
 -- an instance's arrays have their full length, whatever stands in them
 pub record Roomy (d : PackedInstance) : Type 0 where
   pub nodes : length d.nodes ≡ Limits.nodes
   pub edges : length d.edges ≡ Limits.edges
 
-pub record Reports (old : PackedInstance) (matchings : ℕ) (changed : Result PackedInstance Refusal) (answer : Result Applied Refusal) : Type 0 where
-  pub report : answer ≡ report_of old matchings changed
+pub record Reports (old : PackedInstance) (matchings : ℕ) (changed : Result ⊤ Refusal) (new : PackedInstance) (answer : Result Applied Refusal)
+    : Type 0 where
+  pub report : answer ≡ report_of old matchings changed new
   pub old-room : Roomy old
-  pub new-room : IfOk changed Roomy
+  pub new-room : Roomy new

@@ -2,7 +2,7 @@
 #![tactic(auto)]
 
 ghost use Rattle.std.specs.Prelude.{◌≡◌};
-ghost use Rattle.reports.specs.Reported.{counts_of, Reports};
+ghost use Rattle.reports.specs.Reported.{counts_of, Reports, Roomy};
 
 use graph::instance::PackedInstance;
 use model::{Counts, Difference, Refusal};
@@ -15,8 +15,9 @@ pub struct Applied {
 }
 
 // An operation only adds or only removes, so that the numbers of nodes and edges tell how many.
-fn count_changes(old: PackedInstance, matchings: u64, new: PackedInstance) -> Counts
-    ensures { result ≡ counts_of old matchings new }
+fn count_changes(old: &PackedInstance, matchings: u64, new: &PackedInstance) -> Counts
+    ensures counts { result ≡ counts_of old.now matchings new.now }
+    ensures room { Roomy old.now × Roomy new.now }
 {
     Counts {
         matchings,
@@ -31,17 +32,20 @@ fn count_changes(old: PackedInstance, matchings: u64, new: PackedInstance) -> Co
     }
 }
 
-// A refusal is passed on: the old instance stays.
+// What became of an instance that was to be changed in place. A refusal is passed on, and then the new instance is dropped.
 pub fn report(
-    old: PackedInstance,
+    old: &PackedInstance,
     matchings: u64,
-    changed: Result<PackedInstance, Refusal>,
+    changed: Result<(), Refusal>,
+    new: PackedInstance,
 ) -> Result<Applied, Refusal>
-    ensures { Reports old matchings changed result }
+    ensures { Reports old.now matchings changed new result }
 {
-    let new = changed?;
+    // Counted before a refusal is passed on: what is read here tells the room of both instances.
+    let counts = count_changes(old, matchings, &new);
+    changed?;
     Ok(Applied {
-        counts: count_changes(old, matchings, new),
+        counts,
         instance: new,
     })
 }

@@ -1,2 +1,3 @@
 -- Laws of results.
+pub mod Cases
 pub mod Numbers

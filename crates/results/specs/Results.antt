@@ -39,9 +39,12 @@ apply_result (Err x) = record {
 }
 
 -- undo and close report nothing
+abbrev pub refused_step : Refusal → StepResult
+refused_step x = record { refusal = (table_row x).number; returned = (table_row x).returned }
+
 abbrev pub step_result : Result ⊤ Refusal → StepResult
 step_result (Ok _) = record { refusal = 0; returned = 0 }
-step_result (Err x) = record { refusal = (table_row x).number; returned = (table_row x).returned }
+step_result (Err x) = refused_step x
 
 -- no matching: none is found, or the call is refused
 abbrev unmatched : (refusal returned : ℕ) → MatchingResult

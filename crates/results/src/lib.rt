@@ -7,9 +7,7 @@ ghost use Rattle.results.specs.Results.{told, open_result, apply_result, step_re
 
 use graph::pattern::PackedPattern;
 use matcher::listing::Matching;
-use model::{
-    ApplyAnswer, Counts, Difference, OpenAnswer, Opened, Refusal, Row, SaveAnswer, StepAnswer,
-};
+use model::{ApplyAnswer, Counts, OpenAnswer, Opened, Refusal, Row, SaveAnswer, StepAnswer};
 
 // Kept: a number for the refusal, and below one for what is found, since C is given these structs and no enum may cross the border.
 // Of undo and close, which report nothing.
@@ -61,13 +59,6 @@ pub struct SaveResult {
     pub length: u64,
 }
 
-// What a refused apply reports.
-const NO_COUNTS: Counts = Counts {
-    matchings: 0,
-    added: Difference { nodes: 0, edges: 0 },
-    removed: Difference { nodes: 0, edges: 0 },
-};
-
 // The first two numbers, and what is reported; or the row of the table of refusals, and nothing to report.
 fn told<A: Copy>(answer: Result<A, Refusal>, nothing: A) -> (Row, A)
     ensures { result ≡ told answer nothing }
@@ -84,6 +75,7 @@ fn told<A: Copy>(answer: Result<A, Refusal>, nothing: A) -> (Row, A)
     }
 }
 
+// Kept: functions and no `From`, here and below: each is called once, by the exported call of its name.
 pub fn step_result(answer: StepAnswer) -> StepResult
     ensures { result ≡ step_result answer }
 {
@@ -115,7 +107,7 @@ pub fn open_result(answer: OpenAnswer) -> OpenResult
 pub fn apply_result(answer: ApplyAnswer) -> ApplyResult
     ensures { result ≡ apply_result answer }
 {
-    let (row, counts) = told(answer, NO_COUNTS);
+    let (row, counts) = told(answer, Counts::NONE);
     ApplyResult {
         refusal: row.number,
         returned: row.returned,

@@ -13,28 +13,28 @@ use Rattle.model.proofs.Laws.DrawingFiles.{write_read}
 use Rattle.model.proofs.Laws.SavedFiles.{read-write}
 use Rattle.model.specs.declared.Refusal.{Refusal}
 use Rattle.graph.specs.Packed.{unpack_scheme, unpack_instance}
-use Rattle.standing.specs.declared.Drawing.{Drawing}
+use Rattle.reading.specs.declared.whole.Whole.{Whole}
 use Rattle.reading.specs.Readers.{contents, ReadDrawing}
 use Rattle.writing.specs.Writers.{Saves, SavesText}
 use Rattle.writing.proofs.Laws.Saving.{saved-text, saved-file}
 
 -- what was read from a file, saved: the same bytes at the front of the buffer, and the rest as it was; or, where the buffer is too short for the
 -- file, its length and the buffer as it was
-pub open-then-save : (file : List ℕ) (r : Result Drawing Refusal) → ReadDrawing file r → (o : Drawing) → r ≡ Ok o
+pub open-then-save : (file : List ℕ) (r : Result Whole Refusal) → ReadDrawing file r → (o : Whole) → r ≡ Ok o
     → (before : List ℕ) (a : Result ℕ Refusal) (after : List ℕ) → Saves (unpack_scheme o.scheme) (unpack_instance o.instance) before a after
     → SavesText file before a after
 open-then-save file r read o opens before a after saves =
-    let same = write_read file (contents o) (sym read.answer ∙ ap (outcome contents) opens) in
+    let same = write_read file (contents o) (sym read ∙ ap (outcome contents) opens) in
     subst (λ text. SavesText text before a after) same (saved-text saves)
 
 -- what was saved of a sound scheme and instance, read: accepted, and the same scheme and instance
 pub save-then-open : (s : Scheme) (d : Instance) → Sound s d → (before after : List ℕ) (n : ℕ) → Saves s d before (Ok n) after
-    → (r : Result Drawing Refusal) → ReadDrawing (take n after) r → (o : Drawing) × (r ≡ Ok o) × (contents o ≡ record { scheme = s; instance = d })
+    → (r : Result Whole Refusal) → ReadDrawing (take n after) r → (o : Whole) × (r ≡ Ok o) × (contents o ≡ record { scheme = s; instance = d })
 save-then-open s d sound before after n saves r read =
     let written = saved-file saves in
     let same : take n after ≡ file_text s d = rw (written.count, written.buffer) (take-append_seam (file_text s d) _) in
-    told r (read.answer ∙ ap read_drawing same ∙ read-write s d sound)
+    told r (read ∙ ap read_drawing same ∙ read-write s d sound)
   where
-    told : (r : Result Drawing Refusal) {e : Contents} → outcome contents r ≡ accepted e → (o : Drawing) × (r ≡ Ok o) × (contents o ≡ e)
+    told : (r : Result Whole Refusal) {e : Contents} → outcome contents r ≡ accepted e → (o : Whole) × (r ≡ Ok o) × (contents o ≡ e)
     told (Ok o) h = (o, refl, cc)
     told (Err x) h = absurd (refused-not-accepted h)

@@ -4,8 +4,9 @@
 ghost use Rattle.std.specs.Prelude.{◌≡◌, true, false};
 ghost use Rattle.model.specs.InForm.{code_of as key_code};
 ghost use Rattle.forms.specs.Forms.{of_drawing, rule_key};
+ghost use Rattle.keys.specs.Keys.{keys_rise};
 ghost use Rattle.graph.specs.Operations.{code_of};
-ghost use Rattle.graph.specs.Packed.{triples_rise, scheme_of, unpack_pattern};
+ghost use Rattle.graph.specs.Packed.{scheme_of, unpack_pattern};
 ghost use Rattle.rule_lines.specs.RuleLines.{in_action, placed, lines_above, rule_verdict, FitsRule, HeldRule, Coming, line_checks, RowFits};
 ghost use Rattle.verdicts.specs.Verdicts.{judged, scheme_above, pattern_above};
 
@@ -14,6 +15,7 @@ use forms::LineKind;
 use graph::declarations::Declarations;
 use graph::packing::{KINDS, PNODE_GIVEN};
 use graph::rule::{Operation, PackedRule};
+use keys::Rising;
 use model::Refusal;
 use pattern_lines::{check_pedge, check_pnode};
 use text::lines::{Last, Line, crowded, follows};
@@ -57,6 +59,7 @@ fn operation_of(kind: LineKind) -> Operation
 }
 
 // How many lines of the kind stand above, of those that document 01 limits.
+// Kept: alone with the kinds of a rule text: that of `drawing_lines` counts other lines, in another stored value.
 fn lines_above(rule: &PackedRule, kind: LineKind) -> usize
     requires { FitsRule rule.now }
     ensures { result ≡ lines_above (unpack_pattern rule.now.pattern) rule.now.action.count (rule_key kind) }
@@ -70,7 +73,7 @@ fn lines_above(rule: &PackedRule, kind: LineKind) -> usize
 
 // Causes 3 to 5 of a line, by its kind. `head` is the row of a make line above.
 fn check_row(above: &Above, head: u64, l: Line, line: u64) -> Result<(), Refusal>
-    requires edges_value { triples_rise above.now.edges.now ≡ true }
+    requires edges_value { keys_rise above.now.edges.now ≡ true }
     requires row_fits { RowFits head l }
     ensures { result ≡ judged line (line_checks (scheme_above above.now) (pattern_above above.now) head (rule_key l.kind) l.row) }
 {
@@ -82,7 +85,10 @@ fn check_row(above: &Above, head: u64, l: Line, line: u64) -> Result<(), Refusal
         LineKind::Arm => check_arm(above, head, row, line),
         LineKind::Put => check_put(above, row, line),
         LineKind::Drop => check_drop(above.nodes, row, line),
-        LineKind::Cut => check_cut(above.names, above.nodes, above.edges, row, line),
+        LineKind::Cut => {
+            let edges = Rising { keys: above.edges };
+            check_cut(above.names, above.nodes, edges, row, line)
+        }
         LineKind::Group => check_group(above, row, line),
         _ => Ok(()),
     }
@@ -93,15 +99,14 @@ fn check_row(above: &Above, head: u64, l: Line, line: u64) -> Result<(), Refusal
 pub fn check_rule_line(
     classes: Declarations,
     names: Declarations,
-    permitted: &[u64],
+    permitted: Rising,
     rule: &PackedRule,
     last: Last,
     l: Line,
 ) -> Result<(), Refusal>
-    requires permitted_value { triples_rise permitted.now ≡ true }
     requires held_rule { HeldRule rule.now }
     requires coming { Coming rule.now last l }
-    ensures { result ≡ rule_verdict (scheme_of classes names permitted.now) rule.now last l }
+    ensures { result ≡ rule_verdict (scheme_of classes names permitted.entry.keys.now) rule.now last l }
 {
     let line = last.lines + 1;
     if !follows(last.line, l) || !placed(last.line, rule.action.operation, l) {

@@ -1,2 +1,3 @@
--- What a rule notes.
+-- What a rule notes, and laws of it.
 pub mod Noted
+pub mod Laws

@@ -9,6 +9,7 @@ ghost use Rattle.rule_notes.specs.Noted.{noting_of, Able, begun};
 use graph::instance::PackedInstance;
 use graph::packing::GROUP_NODE;
 use graph::rule::{Operation, PackedAction};
+use keys::Rising;
 use notes::{Arms, Notes, Noting};
 use serving::note_served;
 
@@ -41,7 +42,7 @@ pub fn begin(instance: &PackedInstance, action: &PackedAction) -> Notes
     match action.operation {
         Operation::NodeAddition => note_served(
             nodes,
-            edges,
+            Rising { keys: edges },
             action.head,
             Arms { parts },
             &mut notes,

@@ -8,3 +8,4 @@ pub mod RuleOrder
 pub mod RuleLines
 pub mod RuleReached
 pub mod RuleHeld
+pub mod Cases

@@ -11,10 +11,10 @@ ghost use Rattle.rules.specs.Readers.{ReadRule};
 use forms::LineKind;
 use graph::rule::{Operation, PackedRule};
 use graph::scheme::PackedScheme;
+use keys::Rising;
 use model::Refusal;
 use rule_lines::{check_rule_line, in_action};
 use text::lines::{Last, Line, rule_line};
-use verdicts::lines::line_at;
 
 // Adds what a line that passes says.
 fn keep_rule_line(rule: &mut PackedRule, l: Line)
@@ -56,26 +56,27 @@ fn is_complete(last: Option<Line>, operation: Operation) -> bool
 }
 
 // The rule that a text holds, or why it is refused.
-pub fn read_rule(text: &[u8], scheme: PackedScheme) -> Result<PackedRule, Refusal>
-    requires { StoredScheme scheme }
-    ensures { ReadRule (unpack_scheme scheme) text.now result }
+pub fn read_rule(text: &[u8], scheme: &PackedScheme) -> Result<PackedRule, Refusal>
+    requires { StoredScheme scheme.now }
+    ensures { ReadRule (unpack_scheme scheme.now) text.now result }
 {
     let mut rule = PackedRule::new();
     let mut last = Last::new();
-    let mut at = 0;
-    // Kept: `split` at byte 10 also gives what follows the last one, which is no line where it is empty, and no ended one else.
-    while at < text.len() {
+    for piece in text.split_inclusive(|b| *b == b'\n') {
         let line = last.lines + 1;
-        let bytes = line_at(text, at).ok_or(Refusal::Malformed { line })?;
+        let bytes = piece
+            .strip_suffix(b"\n")
+            .ok_or(Refusal::Malformed { line })?;
         let l = rule_line(bytes).ok_or(Refusal::Malformed { line })?;
-        let permitted = &scheme.permitted[..scheme.permissions];
+        let permitted = Rising {
+            keys: &scheme.permitted[..scheme.permissions],
+        };
         check_rule_line(scheme.classes, scheme.names, permitted, &rule, last, l)?;
         keep_rule_line(&mut rule, l);
         last = Last {
             lines: line,
             line: Some(l),
         };
-        at += bytes.len() + 1;
     }
     if is_complete(last.line, rule.action.operation) {
         Ok(rule)

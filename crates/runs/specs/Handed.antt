@@ -1,7 +1,8 @@
 -- A list of calls handed over as slices: kinds, texts one after another, and for each call the bound at which its text ends. Any slices mean a list.
-use Rattle.std.specs.Prelude.{ℕ, ◌-◌, ◌/◌, ◌≡◌, ◌≤◌, Bool, cond, ◌&&◌, List, [], ◌∷◌, ◌++◌, length, get_or, take, drop, leb, ltb, Result, MatchResult}
+use Rattle.std.specs.Prelude.{ℕ, ◌-◌, ◌/◌, ◌≡◌, ◌≤◌, Bool, cond, ◌&&◌, List, [], ◌∷◌, ◌++◌, length, get_or, take, drop, leb, ltb, Result, Ok, Err, MatchResult}
 use Rattle.model.specs.Refusals.{Outcome, accepted, refused, table_row}
 use Rattle.model.specs.Record.{Call, Open, Apply, Undo, Close, Report, report_numbers}
+use Rattle.model.specs.declared.Refusal.{Refusal}
 use Rattle.runs.specs.declared.Kind.{Kind}
 use Rattle.runs.specs.declared.Kind.TheVariants as kind
 use Rattle.runs.specs.declared.UnknownKind.{UnknownKind}
@@ -58,6 +59,11 @@ answer_numbers (refused x) = let row = table_row x in row.number ∷ row.returne
 
 unfoldable pub six_numbers : Outcome Report → List ℕ
 six_numbers a = take answer_room (answer_numbers a ++ (0 ∷ 0 ∷ 0 ∷ 0 ∷ 0 ∷ []))
+
+-- the same of an answer whose report is given by five numbers
+abbrev pub in_six : Result (List ℕ) Refusal → List ℕ
+in_six (Ok ns) = 0 ∷ ns
+in_six (Err x) = let row = table_row x in row.number ∷ row.returned ∷ 0 ∷ 0 ∷ 0 ∷ 0 ∷ []
 
 -- the calls that are run: those for whose answers there is room
 abbrev pub calls_in : (kinds bounds texts answers : List ℕ) → List Call

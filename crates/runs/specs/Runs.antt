@@ -1,32 +1,37 @@
 -- What running a list of calls promises: demand 3 for that list.
-use Rattle.std.specs.Prelude.{ℕ, ◌+◌, ◌/◌, ◌≤◌, ◌≡◌, Bool, ◌&&◌, List, [], ◌++◌, length, get_or, drop, ltb}
+use Rattle.std.specs.Prelude.{ℕ, ◌+◌, ◌/◌, ◌≤◌, ◌≡◌, Bool, ◌&&◌, List, [], ◌++◌, length, get_or, drop, ltb, Result}
 use Rattle.lists.specs.Lists.{each}
 use Rattle.lists.specs.Buffers.{at_front, WritesFrom}
 use Rattle.model.specs.Refusals.{Outcome}
 use Rattle.model.specs.Record.{Call, Report, run}
+use Rattle.model.specs.declared.Refusal.{Refusal}
 use Rattle.session.specs.Sessions.{unpack_session, StoredSession, NewSession, Stepped}
 use Rattle.session.specs.Chains.{Chain}
 use Rattle.session.specs.declared.Session.{Session}
 use Rattle.demands.specs.Demand3.{Demand3}
-use Rattle.runs.specs.Handed.{is_call, calls_from, six_numbers, answer_room}
-use Rattle.runs.specs.declared.Performed.{Performed}
-use Rattle.runs.specs.declared.Ran.{Ran}
+use Rattle.runs.specs.Handed.{is_call, calls_from, in_six, six_numbers, answer_room}
 
--- one call of a list: the answer, as its numbers, and the session
-pub record Performs (call : Call) (s : Session) (r : Performed) : Type 0 where
+-- one call of a list: the answer, told by the numbers of its report or as a refusal, and the session
+pub record Makes (call : Call) (before : Session) (r : Result (List ℕ) Refusal) (after : Session) : Type 0 where
   pub answer : Outcome Report
-  pub stepped : Stepped call s answer [] r.session
-  pub numbers : r.numbers ≡ six_numbers answer
+  pub stepped : Stepped call before answer [] after
+  pub numbers : in_six r ≡ six_numbers answer
+
+-- the answer as its numbers
+pub record Performs (call : Call) (before : Session) (told : List ℕ) (after : Session) : Type 0 where
+  pub answer : Outcome Report
+  pub stepped : Stepped call before answer [] after
+  pub numbers : told ≡ six_numbers answer
 
 -- session and answers are the record's, from whatever record the session begins with; from a new session they are what demand 3 says
-pub record Runs (s : Session) (calls : List Call) (before : List ℕ) (r : Ran) (after : List ℕ) : Type 0 where
+pub record Runs (s : Session) (calls : List Call) (before : List ℕ) (run_count : ℕ) (left : Session) (after : List ℕ) : Type 0 where
   pub answers : List (Outcome Report)
-  pub equals : record { state = unpack_session r.session; answers = answers } ≡ run (unpack_session s) calls
+  pub equals : record { state = unpack_session left; answers = answers } ≡ run (unpack_session s) calls
   pub numbers : after ≡ at_front (each answers six_numbers) before
-  pub count : r.calls ≡ length calls
-  pub chain : Chain s calls answers r.session
-  pub demand : NewSession s → Demand3 calls answers r.session
-  pub stored : StoredSession r.session
+  pub count : run_count ≡ length calls
+  pub chain : Chain s calls answers left
+  pub demand : NewSession s → Demand3 calls answers left
+  pub stored : StoredSession left
 
 -- # Within the crate
 -- entry i is a call, whose text begins at `from`, and there is room for its answer

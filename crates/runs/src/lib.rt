@@ -2,15 +2,12 @@
 #![tactic(auto)]
 
 ghost use Rattle.std.specs.Prelude.{◌≡◌, ◌+◌, ◌≤◌, length};
-ghost use Rattle.lists.specs.Buffers.{WritesFrom};
-ghost use Rattle.model.specs.Refusals.{refused};
-ghost use Rattle.model.specs.Answers.{open_answer, apply_answer, step_answer};
 ghost use Rattle.session.specs.Sessions.{StoredSession};
-ghost use Rattle.runs.specs.Handed.{call_for, call_of, is_call, calls_in, six_numbers, answer_room, Decodes};
-ghost use Rattle.runs.specs.Runs.{Performs, Runs, goes_on, Answered};
+ghost use Rattle.runs.specs.Handed.{call_for, call_of, is_call, calls_in, in_six, answer_room, Decodes};
+ghost use Rattle.runs.specs.Runs.{Makes, Performs, Runs, goes_on, Answered};
 
-use calls::{apply_value, close_value, open_value, undo_value};
-use model::{ApplyAnswer, OpenAnswer, Refusal, StepAnswer};
+use calls::{apply, close, open, undo};
+use model::Refusal;
 use session::Session;
 
 // The kinds of call that change the session, in the order of their numbers.
@@ -42,112 +39,64 @@ impl TryFrom<u8> for Kind {
     }
 }
 
+// How many numbers a report has at most.
+pub const REPORTED: usize = 5;
+
 // How many numbers an answer takes.
 pub const NUMBERS: usize = 6;
 
-// An answer as numbers, and the session.
-#[derive(Clone, Copy)]
-pub struct Performed {
-    pub numbers: [u64; NUMBERS],
-    pub session: Session,
-}
-
-// The session after a list of calls, and how many were run.
-#[derive(Clone, Copy)]
-pub struct Ran {
-    pub session: Session,
-    pub calls: usize,
-}
-
-#[tactic(auto, unfolding(crate::specs::Handed::six_numbers))]
-fn refused_numbers(refusal: Refusal) -> [u64; NUMBERS]
-    ensures { result ≡ six_numbers (refused refusal) }
-{
-    let row = table::row(refusal);
-    [row.number, row.returned, 0, 0, 0, 0]
-}
-
-// Kept: a function for each report, since the proof of `make` did not close over closures that `map` or one generic function was given.
-#[tactic(auto, unfolding(crate::specs::Handed::six_numbers))]
-fn open_numbers(answer: OpenAnswer) -> [u64; NUMBERS]
-    ensures { result ≡ six_numbers (open_answer answer) }
-{
-    match answer {
-        Ok(opened) => [0, opened.classes, opened.names, 0, 0, 0],
-        Err(refusal) => refused_numbers(refusal),
-    }
-}
-
-#[tactic(auto, unfolding(crate::specs::Handed::six_numbers))]
-fn apply_numbers(answer: ApplyAnswer) -> [u64; NUMBERS]
-    ensures { result ≡ six_numbers (apply_answer answer) }
-{
-    match answer {
-        Ok(counts) => [
-            0,
-            counts.matchings,
-            counts.added.nodes,
-            counts.added.edges,
-            counts.removed.nodes,
-            counts.removed.edges,
-        ],
-        Err(refusal) => refused_numbers(refusal),
-    }
-}
-
-#[tactic(auto, unfolding(crate::specs::Handed::six_numbers))]
-fn step_numbers(answer: StepAnswer) -> [u64; NUMBERS]
-    ensures { result ≡ six_numbers (step_answer answer) }
-{
-    match answer {
-        Ok(()) => [0; NUMBERS],
-        Err(refusal) => refused_numbers(refusal),
-    }
-}
-
-// One call.
-pub fn make(session: Session, kind: Kind, text: &[u8]) -> Performed
-    requires { StoredSession session }
-    ensures { Performs (call_for kind text.now) session result }
+// One call: the numbers of its report, with 0 in the rest, or the refusal.
+// Kept: five numbers, with 0 past those of a report: an enum of reports would be made here and unmade in `in_six` at once.
+pub fn make(session: &mut Session, kind: Kind, text: &[u8]) -> Result<[u64; REPORTED], Refusal>
+    requires { StoredSession session.old }
+    ensures { Makes (call_for kind text.now) session.old result session.new }
 {
     match kind {
         Kind::Open => {
-            let left = open_value(session, text);
-            Performed {
-                numbers: open_numbers(left.answer),
-                session: left.session,
-            }
+            let opened = open(session, text)?;
+            Ok([opened.classes, opened.names, 0, 0, 0])
         }
         Kind::Apply => {
-            let left = apply_value(session, text);
-            Performed {
-                numbers: apply_numbers(left.answer),
-                session: left.session,
-            }
+            let counts = apply(session, text)?;
+            Ok([
+                counts.matchings,
+                counts.added.nodes,
+                counts.added.edges,
+                counts.removed.nodes,
+                counts.removed.edges,
+            ])
         }
         Kind::Undo => {
-            let left = undo_value(session);
-            Performed {
-                numbers: step_numbers(left.answer),
-                session: left.session,
-            }
+            undo(session)?;
+            Ok([0; REPORTED])
         }
         Kind::Close => {
-            let left = close_value(session);
-            Performed {
-                numbers: step_numbers(left.answer),
-                session: left.session,
-            }
+            close(session)?;
+            Ok([0; REPORTED])
+        }
+    }
+}
+
+// An answer as numbers: 0 before those of the report, or the refusal's number and what is returned, with 0 in the rest.
+fn in_six(answer: Result<[u64; REPORTED], Refusal>) -> [u64; NUMBERS]
+    ensures { result ≡ in_six answer }
+{
+    match answer {
+        Ok(report) => [0, report[0], report[1], report[2], report[3], report[4]],
+        Err(refusal) => {
+            let row = table::row(refusal);
+            [row.number, row.returned, 0, 0, 0, 0]
         }
     }
 }
 
 // One call, by its kind's number; every number past the last is taken for close.
-pub fn perform(session: Session, kind: u8, text: &[u8]) -> Performed
-    requires { StoredSession session }
-    ensures { Performs (call_of kind text.now) session result }
+// Kept: a kind's number, of which any is taken, as before: an enum would ask more of callers, who hand kinds over as bytes.
+pub fn perform(session: &mut Session, kind: u8, text: &[u8]) -> [u64; NUMBERS]
+    requires { StoredSession session.old }
+    ensures { Performs (call_of kind text.now) session.old result session.new }
 {
-    make(session, Kind::try_from(kind).unwrap_or(Kind::Close), text)
+    in_six(make(session, Kind::try_from(kind).unwrap_or(Kind::Close), text))
 }
 
 // Whether an entry is a call.
@@ -155,14 +104,6 @@ fn is_call(kind: u8, from: usize, end: usize, texts: usize) -> bool
     ensures { result ≡ is_call kind from end texts }
 {
     Kind::try_from(kind).is_ok() && from <= end && end <= texts
-}
-
-// Writes an answer's numbers at the place of the answer.
-fn put_numbers(answers: &mut [u64], from: usize, numbers: [u64; NUMBERS])
-    requires { from + answer_room ≤ length answers.old }
-    ensures { WritesFrom numbers from answers.old (from + answer_room) answers.new }
-{
-    answers[from..from + NUMBERS].copy_from_slice(&numbers);
 }
 
 // Whether entry i is a call, and there is room for its answer.
@@ -174,40 +115,35 @@ fn goes_on(kinds: &[u8], bounds: &[usize], texts: usize, room: usize, from: usiz
 }
 
 // One call, with its answer written from a place on.
-fn answer_call(session: Session, kind: u8, text: &[u8], answers: &mut [u64], from: usize) -> Session
-    requires stored_session { StoredSession session }
+fn answer_call(session: &mut Session, kind: u8, text: &[u8], answers: &mut [u64], from: usize)
+    requires stored_session { StoredSession session.old }
     requires answer_room_in_bounds { from + answer_room ≤ length answers.old }
-    ensures { Answered (call_of kind text.now) session from answers.old result answers.new }
+    ensures { Answered (call_of kind text.now) session.old from answers.old session.new answers.new }
 {
-    let performed = perform(session, kind, text);
-    put_numbers(answers, from, performed.numbers);
-    performed.session
+    let numbers = perform(session, kind, text);
+    answers[from..from + NUMBERS].copy_from_slice(&numbers);
 }
 
-// Runs the calls, up to the first entry that is none or for whose answer there is no room.
+// Runs the calls, up to the first entry that is none or for whose answer there is no room; how many were run.
 pub fn run_calls(
-    session: Session,
+    session: &mut Session,
     kinds: &[u8],
     bounds: &[usize],
     texts: &[u8],
     answers: &mut [u64],
-) -> Ran
-    requires { StoredSession session }
-    ensures { Runs session (calls_in kinds.now bounds.now texts.now answers.old)
-        answers.old result answers.new }
+) -> usize
+    requires { StoredSession session.old }
+    ensures { Runs session.old (calls_in kinds.now bounds.now texts.now answers.old)
+        answers.old result session.new answers.new }
 {
-    let mut current = session;
-    let mut from: usize = 0;
-    let mut i: usize = 0;
+    let mut from = 0;
+    let mut i = 0;
     // Kept: one index goes over three slices, any of which may end first; over a `zip` of them the test of each entry would stand beside a count.
     while goes_on(kinds, bounds, texts.len(), answers.len() / NUMBERS, from, i) {
         let end = bounds[i];
-        current = answer_call(current, kinds[i], &texts[from..end], answers, i * NUMBERS);
+        answer_call(session, kinds[i], &texts[from..end], answers, i * NUMBERS);
         from = end;
         i += 1;
     }
-    Ran {
-        session: current,
-        calls: i,
-    }
+    i
 }

@@ -9,6 +9,7 @@ use graph::scheme::PackedScheme;
 
 // Shut, or open with scheme, instance and copies.
 // Kept: a flag beside what it rules, since C lays out and reads the session, and no enum crosses that border.
+// Kept: what every call requires is one clause, `StoredSession`, the invariant that the project asks for by name; no fact is kept in a session that C holds.
 #[repr(C)]
 #[derive(Clone, Copy)]
 pub struct Session {
@@ -19,6 +20,7 @@ pub struct Session {
 }
 
 impl Session {
+    // Kept: a constructor that promises a fresh value; by a derived `Default` it would be one call more, of the same shape in each type.
     pub fn new() -> Session
         ensures { NewSession result }
     {

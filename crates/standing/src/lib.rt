@@ -4,6 +4,7 @@
 ghost use Rattle.standing.specs.Held.{FreshDrawing, Fits, Room, KeptLine};
 
 use forms::LineKind;
+use graph::declarations::Kind;
 use graph::instance::PackedInstance;
 use graph::packing::KINDS;
 use graph::scheme::PackedScheme;
@@ -17,6 +18,7 @@ pub struct Drawing {
 }
 
 impl Drawing {
+    // Kept: a constructor that promises a fresh value; by a derived `Default` it would be one call more, of the same shape in each type.
     pub fn new() -> Drawing
         ensures { FreshDrawing result }
     {
@@ -35,10 +37,10 @@ impl Drawing {
         let row = line.row;
         match line.kind {
             LineKind::Class => {
-                self.scheme.classes = self.scheme.classes.with(row / KINDS, row % KINDS);
+                self.scheme.classes = self.scheme.classes.with(row / KINDS, Kind::of(row));
             }
             LineKind::Name => {
-                self.scheme.names = self.scheme.names.with(row / KINDS, row % KINDS);
+                self.scheme.names = self.scheme.names.with(row / KINDS, Kind::of(row));
             }
             LineKind::May => {
                 self.scheme.permitted[self.scheme.permissions] = row;

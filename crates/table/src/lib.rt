@@ -8,6 +8,7 @@ ghost use Rattle.model.specs.Refusals.{table_row};
 use model::{Refusal, Row};
 
 // The number that document 01 gives the refusal; beside it a line, a node, a length, or 0.
+// Kept: a function and no `From`, which would have to stand in `model`, and be proved with all that use it.
 pub fn row(refusal: Refusal) -> Row
     ensures { result ≡ table_row refusal }
 {
@@ -28,17 +29,4 @@ pub fn row(refusal: Refusal) -> Row
         Refusal::LengthDiffers { length } => (14, length),
     };
     Row { number, returned }
-}
-
-pub fn number(refusal: Refusal) -> u64
-    ensures { result ≡ (table_row refusal).number }
-{
-    row(refusal).number
-}
-
-// What the call returns beside the number.
-pub fn returned(refusal: Refusal) -> u64
-    ensures { result ≡ (table_row refusal).returned }
-{
-    row(refusal).returned
 }

@@ -2,3 +2,4 @@
 pub mod Rows
 pub mod Lines
 pub mod Parsing
+pub mod Seeking

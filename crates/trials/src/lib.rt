@@ -5,13 +5,13 @@ ghost use Rattle.std.specs.Prelude.{◌≡◌, ◌≤◌, length};
 ghost use Rattle.lists.specs.Buffers.{Writes};
 ghost use Rattle.model.specs.Meaning.{most_of_drawing, enough_of_drawing, enough_of_rule};
 ghost use Rattle.model.specs.Trial.{saved_file, trial};
-ghost use Rattle.session.specs.Sessions.{unpack_session, StoredSession};
-ghost use Rattle.trials.specs.Trials.{most_of_done, most_of_trial, refused_text, counts_text, applied_text, apply_text};
+ghost use Rattle.session.specs.Sessions.{unpack_session, StoredSession, NewSession};
+ghost use Rattle.trials.specs.Trials.{most_of_done, most_of_trial, refused_text, counts_text, applied_text, Tried};
 
-use calls::{apply_value, open_value};
-use model::{Counts, Refusal};
+use calls::{apply, open};
+use model::{ApplyAnswer, Counts, Refusal};
 use printing::write_line;
-use queries::save_value;
+use queries::save;
 use session::Session;
 
 // The first so many bytes of a drawing file, and of a rule text, decide what is printed (specs/Trials.antt, `LongTexts`); no more are printed than
@@ -23,7 +23,7 @@ const RULE: usize = 465;
 pub const PRINTED: usize = 20142;
 
 // Room for as much of a drawing file as decides.
-// Kept: two functions, since each says that its length is the definition's, which one function over a const parameter could not.
+// Kept: two functions, since each says that its length is the definition's; of a const parameter it would be the number that a caller writes.
 pub fn job_room() -> [u8; JOB]
     ensures { length result ≡ enough_of_drawing }
 {
@@ -38,6 +38,7 @@ pub fn rule_room() -> [u8; RULE]
 }
 
 // "or `refused=` with number and returned number"
+// Kept: that the buffer has room is a clause of each writer: a lent slice of at least so many bytes is no array of just so many.
 fn write_refused(refusal: Refusal, out: &mut [u8]) -> usize
     requires { most_of_trial ≤ length out.old }
     ensures { Writes (refused_text refusal) out.old result out.new }
@@ -62,42 +63,39 @@ fn write_counts(counts: Counts, out: &mut [u8]) -> usize
 }
 
 // "the saved file"; a shut session has none
-fn write_saved(session: Session, out: &mut [u8]) -> usize
-    requires stored_session { StoredSession session }
+fn write_saved(session: &Session, out: &mut [u8]) -> usize
+    requires stored_session { StoredSession session.now }
     requires most_of_drawing_in_bounds { most_of_drawing ≤ length out.old }
-    ensures { Writes (saved_file (unpack_session session)) out.old result out.new × (result ≤ most_of_drawing) }
+    ensures { Writes (saved_file (unpack_session session.now)) out.old result out.new × (result ≤ most_of_drawing) }
 {
-    save_value(session, out).unwrap_or(0) as usize
+    save(session, out).unwrap_or(0) as usize
 }
 
-fn write_applied(session: Session, counts: Counts, out: &mut [u8]) -> usize
-    requires stored_session { StoredSession session }
+fn write_applied(session: &Session, counts: Counts, out: &mut [u8]) -> usize
+    requires stored_session { StoredSession session.now }
     requires most_of_trial_in_bounds { most_of_trial ≤ length out.old }
-    ensures { Writes (applied_text counts (unpack_session session)) out.old result out.new }
+    ensures { Writes (applied_text counts (unpack_session session.now)) out.old result out.new }
 {
     let at = write_counts(counts, out);
     at + write_saved(session, &mut out[at..])
 }
 
-fn write_apply(session: Session, rule: &[u8], out: &mut [u8]) -> usize
-    requires stored_session { StoredSession session }
-    requires most_of_trial_in_bounds { most_of_trial ≤ length out.old }
-    ensures { Writes (apply_text (unpack_session session) rule.now) out.old result out.new }
+// Opens the drawing file in a new session, and applies the rule text.
+fn open_and_apply(session: &mut Session, job: &[u8], rule: &[u8]) -> ApplyAnswer
+    requires { NewSession session.old }
+    ensures { Tried job.now rule.now result session.new }
 {
-    let left = apply_value(session, rule);
-    match left.answer {
-        Ok(counts) => write_applied(left.session, counts, out),
-        Err(refusal) => write_refused(refusal, out),
-    }
+    open(session, job)?;
+    apply(session, rule)
 }
 
 pub fn write_trial(job: &[u8], rule: &[u8], out: &mut [u8]) -> usize
     requires { most_of_trial ≤ length out.old }
     ensures { Writes (trial job.now rule.now) out.old result out.new }
 {
-    let left = open_value(Session::new(), job);
-    match left.answer {
-        Ok(_) => write_apply(left.session, rule, out),
+    let mut session = Session::new();
+    match open_and_apply(&mut session, job, rule) {
+        Ok(counts) => write_applied(&session, counts, out),
         Err(refusal) => write_refused(refusal, out),
     }
 }

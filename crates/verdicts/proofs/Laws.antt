@@ -2,7 +2,10 @@
 pub mod Verdicts
 pub mod Tests
 pub mod NextLine
+pub mod Lines
+pub mod Pieces
 pub mod InTurn
 pub mod LineByLine
 pub mod Edges
 pub mod LastEdge
+pub mod LastKey

@@ -1,3 +1,3 @@
--- What is found of a line and of a text, and the next line of a text, in terms of the definitions of document 01, and laws.
+-- What is found of a line, and the next line of a text, in terms of the definitions of document 01. Their laws stand in proofs.
 pub mod Verdicts
 pub mod NextLine

@@ -31,7 +31,7 @@ last_shares es e = shares_with (last_of es) e
 
 -- what a line is judged under: a scheme, and a pattern or an instance
 abbrev pub scheme_above : Above → Scheme
-scheme_above a = scheme_of a.classes a.names a.permitted.now
+scheme_above a = scheme_of a.classes a.names a.permitted.keys.now
 
 abbrev pub pattern_above : Above → Pattern
 pattern_above a = pattern_of a.nodes.now a.edges.now

@@ -1,4 +1,4 @@
-// What drawing files and rule texts are both read with: what a line is judged under; whether a further edge conforms; the next line.
+// What drawing files and rule texts are both read with: what a line is judged under; whether a further edge conforms.
 #![tactic(auto)]
 
 ghost use Rattle.std.specs.Prelude.{◌≡◌, not, ◌&&◌, map, ◌<◌, ◌^◌};
@@ -12,14 +12,13 @@ use graph::packing::{NUMBERS, TRIPLE_NAME};
 use graph::scheme::permits;
 
 pub mod above;
-pub mod lines;
 
 // Whether an edge from a node of one class to one of another conforms under the edges above it, none of which stands after it: the triple of
 // classes is permitted, and the last edge is not one of the same functional name from the same node.
 pub fn edge_conforms(above: &Above, source: u64, edge: u64, target: u64) -> bool
     requires { (source < 2 ^ 6) × (target < 2 ^ 6) }
     ensures { result
-        ≡ (has (map unpack_triple above.now.permitted.now) (triple source (unpack_triple edge).name target)
+        ≡ (has (map unpack_triple above.now.permitted.keys.now) (triple source (unpack_triple edge).name target)
         && not (of_kind 0 (unpack_declared above.now.names) (unpack_triple edge).name && last_shares (map unpack_triple above.now.edges.now) (unpack_triple edge))) }
 {
     let name = edge / TRIPLE_NAME % NUMBERS;

@@ -1,2 +1,3 @@
 -- Laws of visits, by subject.
 pub mod Visits
+pub mod Visited

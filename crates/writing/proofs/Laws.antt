@@ -2,3 +2,4 @@
 pub mod Lines
 pub mod Stored
 pub mod Saving
+pub mod Cases

@@ -18,11 +18,7 @@ fn rows_length(kind: LineKind, rows: &[u64]) -> usize
     requires { length (rows_text kind rows.now) ≤ most_of_drawing }
     ensures { (result ≡ length (rows_text kind rows.now)) × (result ≤ most_of_drawing) }
 {
-    let mut length = 0;
-    for row in rows {
-        length += row_length(kind, *row);
-    }
-    length
+    rows.iter().map(|row| row_length(kind, *row)).sum()
 }
 
 // The lines from a place of the buffer on, and where they end. Each line is written into the part that starts where the last line ended.
@@ -31,6 +27,7 @@ fn write_rows(buf: &mut [u8], from: usize, kind: LineKind, rows: &[u64]) -> usiz
     ensures { WritesFrom (rows_text kind rows.now) from buf.old result buf.new }
 {
     let mut at = from;
+    // Kept: a line's length is known once it is written, and where the last line ends the next kind starts: a place, not a part, goes on.
     for row in rows {
         at += write_row(&mut buf[at..], kind, *row);
     }
@@ -48,6 +45,7 @@ struct Rows<'a> {
 }
 
 impl<'a> Rows<'a> {
+    // Kept: an array of the five kinds with their rows, with a contract of its own, is longer than the five calls here and below that a loop saves.
     fn file_length(self) -> usize
         requires { length (file_of self) ≤ most_of_drawing }
         ensures { result ≡ length (file_of self.entry) }
@@ -87,10 +85,10 @@ impl<'a> Rows<'a> {
     }
 }
 
-pub fn save(scheme: PackedScheme, instance: PackedInstance, buf: &mut [u8]) -> SaveAnswer
-    requires stored_scheme { StoredScheme scheme }
-    requires stored_instance { StoredInstance (unpack_scheme scheme) instance }
-    ensures { Saves (unpack_scheme scheme) (unpack_instance instance) buf.old result buf.new }
+pub fn save(scheme: &PackedScheme, instance: &PackedInstance, buf: &mut [u8]) -> SaveAnswer
+    requires stored_scheme { StoredScheme scheme.now }
+    requires stored_instance { StoredInstance (unpack_scheme scheme.now) instance.now }
+    ensures { Saves (unpack_scheme scheme.now) (unpack_instance instance.now) buf.old result buf.new }
 {
     let mut class_rows = [0; NUMBERS as usize];
     let classes = scheme.classes.rows(&mut class_rows);

@@ -9,11 +9,11 @@ use Rattle.abstraction.proofs.add_groups.Given as goal
 
 abbrev pub invariant-loop-i : goal.invariant-loop-i
 invariant-loop-i l =
-    let images = l.images.numbers.now in
+    let images = l.images.runs.numbers.now in
     let old = l.old in
     record {
       room : length l.room ≡ Limits.nodes;
-      adding : Adding l.class images l.images.name old.edges.now old.numbers.now old.name
-          (in_turn images (added_at l.class images l.images.name old.edges.now old.numbers.now old.name) (unpack_instance l.initial.instance))
+      adding : Adding l.class images l.images.runs.name old.edges.keys.now old.numbers.now old.name
+          (in_turn images (added_at l.class images l.images.runs.name old.edges.keys.now old.numbers.now old.name) (unpack_instance l.initial.instance))
           l.instance l.i;
     }

@@ -74,7 +74,7 @@ module _ (class : ℕ) (images : List ℕ) (a : ℕ) (old numbers : List ℕ) (b
 
       pub adding-refused : (r : Refusal) → GrowsTo (added_with class arms old numbers b (unpack_instance d)) (Err r) grown
           → GrowsTo whole (Err r) grown
-      adding-refused r grows = record { outcome = stepped (Err r) grows; addable = tt }
+      adding-refused r grows = record { outcome = stepped (Err r) grows; addable = grows.addable }
 
       pub adding-more : GrowsTo (added_with class arms old numbers b (unpack_instance d)) (Ok tt) grown
           → Adding class images a old numbers b whole grown (i + 1)

@@ -2,8 +2,9 @@
 -- node's targets, these rise, and rising numbers that have the same members are the same.
 use Prim.Native.Nat.{ℕ, ◌+◌, ◌*◌, ◌/◌, ◌%◌, ◌^◌, ◌<◌, ◌≤◌}
 use Rattle.std.proofs.Common.{arith, ap₂, ◌∙◌, subst}
-use Rattle.std.specs.Prelude.{◌≡◌, refl, ◌↔◌, true, false, ◌&&◌, ◌||◌, length, take, Ok, Err}
+use Rattle.std.specs.Prelude.{◌≡◌, refl, ◌↔◌, true, false, ◌&&◌, ◌||◌, length, take, Result}
 use Rattle.std.proofs.Math.Path.{ap, sym}
+use Rattle.std.specs.Bool.{⊤}
 use Rattle.std.proofs.Math.Logic.Iff
 use Rattle.std.proofs.Math.Bool.{Bool, cond}
 use mathlib.Core.List.Memᴰ
@@ -272,12 +273,9 @@ module _ (d : PackedInstance) (class a b : ℕ) (images numbers : List ℕ) (num
       rw (e, f, g, h, k, numbered)
       (groups-of-arms class a b (take d.order d.nodes) (take d.size d.edges) images (l, m) edges_rise images_rise below)
 
-  pub groups-refused : (r : Refusal) (grown : PackedInstance) → GrowsTo in_groups (Err r) grown
-      → Makes (grouped_to class a b images (unpack_instance d)) (Err r)
-  groups-refused r grown grows = record { fits = tt; makes = grows.outcome ∙ made }
-
-  pub groups-made : (grown : PackedInstance) → GrowsTo in_groups (Ok tt) grown → Makes (grouped_to class a b images (unpack_instance d)) (Ok grown)
-  groups-made grown grows =
+  pub groups-made : (v : Result ⊤ Refusal) (grown : PackedInstance) → GrowsTo in_groups v grown
+      → Makes (grouped_to class a b images (unpack_instance d)) v grown
+  groups-made v grown grows =
       record {
         fits = record { few_nodes = grows.addable.few_nodes; few_edges = grows.addable.few_edges };
         makes = grows.outcome ∙ made;

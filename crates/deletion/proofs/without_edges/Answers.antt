@@ -6,4 +6,4 @@ use Rattle.deletion.specs.Laws.Retained.{without-edges-left}
 use Rattle.deletion.proofs.without_edges.Goals as goal
 
 pub returns : goal.returns
-returns c = without-edges-left c.requires.fits (c.retain.ensures (λ k. not (member c.args.gone.now k)) (λ k r post. search rules))
+returns c = without-edges-left c.requires.fits (c.retain-instance.ensures (λ k. not (member c.args.gone.keys.now k)) (λ k r post. search rules))

@@ -5,4 +5,4 @@ use Rattle.deletion.proofs.without_nodes.Goals as goal
 
 pub returns : goal.returns
 returns c =
-    without-nodes-left c.requires.fits c.of-marked.ensures (c.retain.ensures _ (λ k r post. search rules)) (c.retain-2.ensures _ (λ k r post. search rules))
+    without-nodes-left c.requires.fits c.of-marked.ensures (c.retain-instance.ensures _ (λ k r post. search rules)) (c.retain-instance-2.ensures _ (λ k r post. search rules))

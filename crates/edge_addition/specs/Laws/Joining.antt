@@ -20,7 +20,7 @@ use Rattle.model.proofs.Laws.Graph.{stands-node}
 use Rattle.model.proofs.Laws.Sound.{well-formed}
 use Rattle.keys.specs.Keys.{keys_rise}
 use Rattle.keys.specs.Laws.Keys.{rise-cons}
-use Rattle.graph.specs.Packed.{unpack_triple, unpack_declared, unpack_scheme, unpack_instance, StoredInstance}
+use Rattle.graph.specs.Packed.{unpack_triple, unpack_declared, unpack_scheme, unpack_instance, Fits, StoredInstance}
 use Rattle.graph.specs.declared.declarations.Declarations.{Declarations}
 use Rattle.graph.specs.declared.instance.PackedInstance.{PackedInstance}
 use Rattle.graph.specs.declared.scheme.PackedScheme.{PackedScheme}
@@ -276,22 +276,24 @@ module _ (scheme : PackedScheme) (d : PackedInstance) (ks : List ℕ) (stored : 
   unfolding unpack_scheme
   same_names = refl
 
-  pub makes-full : Limits.edges < length ks → Makes (joined_to s ks (unpack_instance d)) (Err EdgesFull)
+  as_stored : Fits d
+  as_stored = record { few_nodes = stored.few_nodes; few_edges = stored.few_edges }
+
+  pub makes-full : Limits.edges < length ks → Makes (joined_to s ks (unpack_instance d)) (Err EdgesFull) d
   unfolding joined_to
-  makes-full h = record { fits = tt; makes = rw (lt-ltb Limits.edges (length ks) h) }
+  makes-full h = record { fits = as_stored; makes = rw (lt-ltb Limits.edges (length ks) h) }
 
   module _ (few : length ks ≤ Limits.edges) (rise : keys_rise ks ≡ true) where
     pub makes-torn : SourcesIn (unpack_instance d) ks → (i : ℕ) → Some i ≡ first_torn scheme.names ks
-        → Makes (joined_to s ks (unpack_instance d)) (Err (FunctionalClash i))
+        → Makes (joined_to s ks (unpack_instance d)) (Err (FunctionalClash i)) d
     unfolding joined_to
     makes-torn sources i found =
         let nodes_rise = (well-formed s (unpack_instance d) stored.sound).nodes-rise in
         let r = tears-at s scheme.names same_names ks rise (unpack_instance d) nodes_rise sources i (sym found) in
-        record { fits = tt; makes = rw (le-ltb Limits.edges (length ks) few, r.1, r.2) }
+        record { fits = as_stored; makes = rw (le-ltb Limits.edges (length ks) few, r.1, r.2) }
 
     pub makes-whole : None ≡ first_torn scheme.names ks → (edges : List ℕ) → edges ≡ at_front ks d.edges
-        → Makes (joined_to s ks (unpack_instance d))
-        (Ok (record { nodes = d.nodes; order = d.order; edges = edges; size = length ks }))
+        → Makes (joined_to s ks (unpack_instance d)) (Ok tt) (record { nodes = d.nodes; order = d.order; edges = edges; size = length ks })
     unfolding joined_to unpack_instance
     makes-whole found edges put =
         let none-torn = whole s scheme.names same_names ks rise (unpack_instance d) (sym found) in

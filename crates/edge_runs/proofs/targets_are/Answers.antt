@@ -6,7 +6,7 @@ use borrow.Author.Rules.{rules}
 use Rattle.edge_runs.proofs.targets_are.Goals as goal
 
 pub offset_bounds-edges-start : goal.offset_bounds-edges-start
-offset_bounds-edges-start c = let within : c.args.start ≤ length c.args.edges.now = search (start-within, rules) in omega arith
+offset_bounds-edges-start c = let within : c.args.start ≤ length c.args.edges.keys.now = search (start-within, rules) in omega arith
 
 pub slice_bounds-iter-count : goal.slice_bounds-iter-count
 slice_bounds-iter-count c = search (start-within, rules)
@@ -16,9 +16,9 @@ slice_bounds-iter-start c = search (start-within, rules)
 
 pub loop-key-init : goal.loop-key-init
 loop-key-init c =
-    let rest = drop c.args.start c.args.edges.now in
-    let all : take (length c.args.edges.now - c.args.start) rest ≡ rest = take_all _ rest (simp length-drop (omega arith)) in
-    rw (c.iter-rest.ensures.rest, all) (compares-start _ _ _ _ c.requires.edges_value c.requires.start_value)
+    let rest = drop c.args.start c.args.edges.keys.now in
+    let all : take (length c.args.edges.keys.now - c.args.start) rest ≡ rest = take_all _ rest (simp length-drop (omega arith)) in
+    rw (c.iter-rest.ensures.rest, all) (compares-start _ _ _ _ c.args.edges.rise c.requires.start_value)
 
 pub returns-in_default : goal.returns-in_default
 returns-in_default c = too_short _ _ _ _ _ c.loop-key.invariant c.loop-key-test.true c.in_default.ensures.steps.0

@@ -4,4 +4,4 @@ use Rattle.edge_runs.specs.Laws.Running.{Compares}
 use Rattle.edge_runs.proofs.targets_are.Given as goal
 
 abbrev pub invariant-loop-key : goal.invariant-loop-key
-invariant-loop-key l = Compares l.edges l.run l.keys (iter_rest l.rest) l.key-index
+invariant-loop-key l = Compares l.edges.keys.now l.run l.keys (iter_rest l.rest) l.key-index

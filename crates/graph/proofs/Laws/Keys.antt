@@ -1,7 +1,8 @@
 -- Keys of triples and of nodes: they rise as what they stand for does, a key is joined as its triple is, and a node is found by its number.
 -- By the order of packed triples, and by where the least key of a number stands.
-use Rattle.std.specs.Prelude.{ℕ, ◌*◌, ◌/◌, ◌^◌, ◌<◌, ◌≡◌, refl, Bool, true, false, cond, List, [], ◌∷◌, map, length, eqb, ltb, None, Some}
-use Rattle.std.proofs.Common.{arith, ap, ◌∙◌, sym, ltb-true, lt-ltb, eq-eqb, ne_eqb}
+use Rattle.std.specs.Prelude.{ℕ, ◌*◌, ◌/◌, ◌^◌, ◌<◌, ◌≡◌, refl, Bool, true, false, cond, List, [], ◌∷◌, map, length, eqb, ltb, None, Some, option_map}
+use Rattle.std.specs.Bool.{then_some}
+use Rattle.std.proofs.Common.{arith, ap, ◌∙◌, sym, ltb-true, lt-ltb, eq-eqb, ne_eqb, eqb-true}
 use Rattle.std.proofs.lemmas.Simd.{map-map}
 use Rattle.lists.specs.Lists.{find, ◌!◌}
 use Rattle.lists.specs.Order.{before, rising}
@@ -78,3 +79,12 @@ module _ (number : ℕ) where
         ∙ ne_eqb (m.0 / 2 ^ 38) number (λ e.
         let r = first-of-run (λ k. k / 2 ^ 38 ≡ number) (λ k q. omega arith) (λ j k u v q. omega arith) least-placed m.0 m.1 e in
         h r.0 r.1)))
+
+    -- the key there, tested
+    pub node-tested : at < length ks → {node : ℕ} → node ≡ ks ! at
+        → option_map unpack_node (then_some (eqb (node / 2 ^ 38) number) node) ≡ find numbered (map unpack_node ks)
+    node-tested l e = rw e (go (eqb ((ks ! at) / 2 ^ 38) number) refl)
+      where
+        go : (t : Bool) → eqb ((ks ! at) / 2 ^ 38) number ≡ t → option_map unpack_node (then_some t (ks ! at)) ≡ find numbered (map unpack_node ks)
+        go true q = node-found l (eqb-true _ _ q)
+        go false q = node-missed (λ _ p. absurd (cc (q, eq-eqb _ _ p)))

@@ -22,6 +22,9 @@ use Rattle.model.specs.Limits
 use Rattle.model.specs.Graph.{Declared, declares, of_kind}
 use Rattle.keys.specs.Keys.{Front}
 use Rattle.graph.specs.Packed.{bit, unpack_declared, pack_declared, declared_rows, Snug, FreshDeclarations, DeclaredWith}
+use Rattle.graph.specs.Kinds.{kind_number}
+use Rattle.graph.specs.declared.declarations.Kind.{Kind}
+use Rattle.graph.specs.declared.declarations.Kind.TheVariants.{First, Second}
 use Rattle.graph.specs.declared.declarations.Declarations.{Declarations}
 
 -- # Binary digits
@@ -129,6 +132,10 @@ declared_below-stops d n k h l =
     (λ m i e. declared_below-suc m d ∙ rw (bit_past d.declared m (lt_of_lt_of_le h (pow_mono i))) (append-nil (declared_below m d)) ∙ e)
     k
     l
+
+pub kind-below : (kind : Kind) → kind_number kind < Limits.kinds
+kind-below First = omega arith
+kind-below Second = omega arith
 
 -- # One number more
 module _ (d : Declarations) (n kind : ℕ) (in_limit : n < Limits.classes) (is_kind : kind < Limits.kinds) (snug : Snug d)

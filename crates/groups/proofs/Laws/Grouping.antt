@@ -31,11 +31,11 @@ pub record Filling (passes : ℕ → Bool) (f : ℕ → ℕ) (xs whole before : 
   pub filled : take count now ++ map f (keep passes (drop i xs)) ≡ whole
 
 module _ (passes : ℕ → Bool) (f : ℕ → ℕ) (xs : List ℕ) where
-  filling-none : (before : List ℕ) (i : ℕ) → Filling passes f xs (map f (keep passes (drop i xs))) before 0 i before
+  pub filling-none : (before : List ℕ) (i : ℕ) → Filling passes f xs (map f (keep passes (drop i xs))) before 0 i before
   filling-none before i = record { passed = omega arith; few = omega arith; as_long = refl; filled = refl }
 
   module _ (whole before : List ℕ) (count i : ℕ) (now : List ℕ) (h : Filling passes f xs whole before count i now) where
-    filling-more : length xs ≤ length before → i < length xs → passes (xs ! i) ≡ true
+    pub filling-more : length xs ≤ length before → i < length xs → passes (xs ! i) ≡ true
         → Filling passes f xs whole before (count + 1) (i + 1) (set now count (f (xs ! i)))
     filling-more room l e =
         let as_long = h.as_long in
@@ -50,7 +50,7 @@ module _ (passes : ℕ → Bool) (f : ℕ → ℕ) (xs : List ℕ) where
               ∙ h.filled);
         }
 
-    filling-same : i < length xs → passes (xs ! i) ≡ false → Filling passes f xs whole before count (i + 1) now
+    pub filling-same : i < length xs → passes (xs ! i) ≡ false → Filling passes f xs whole before count (i + 1) now
     filling-same l e =
         let passed = h.passed in
         record {
@@ -63,7 +63,7 @@ module _ (passes : ℕ → Bool) (f : ℕ → ℕ) (xs : List ℕ) where
               ∙ h.filled);
         }
 
-    filling-all : length xs ≤ i → Front now count whole
+    pub filling-all : length xs ≤ i → Front now count whole
     filling-all past =
         record {
           few = h.few;
@@ -156,7 +156,7 @@ module _ (edges : List ℕ) (a b : ℕ) (images : List ℕ) (i : ℕ) (rise : ke
     abbrev has : ℕ → Bool
     has = has_targets edges a keys
 
-    led-by : cond (any has (take i images)) [] (map arm_to (keep has (drop i images))) ≡ arms_led_by edges a b images (images ! i)
+    pub led-by : cond (any has (take i images)) [] (map arm_to (keep has (drop i images))) ≡ arms_led_by edges a b images (images ! i)
     led-by =
         ap (λ (ts : List ℕ).
         let p : ℕ → Bool = λ j. same (targets_at edges (run_of a j)) ts in

@@ -20,4 +20,4 @@ pub put_edges-requires : goal.put_edges-requires
 put_edges-requires c = search (edges_fit, number-below, rules)
 
 pub returns : goal.returns
-returns c = grows-done _ _ _ c.requires.addable _ c.next_number-number.ensures c.in_ok-room_for.ensures c.requires.class_bound c.requires.below _ c.put_edges.ensures (search rules)
+returns c = grows-done _ _ _ c.requires.addable (search rules) (search rules) _ c.next_number-number.ensures c.in_ok-room_for.ensures c.requires.class_bound c.requires.below _ c.put_edges.ensures (search rules)

@@ -1,6 +1,6 @@
 -- A new node with its edges, in the arrays of an instance: its number is above all others, so its key stands last, and its edges after the others.
 use Rattle.std.specs.Prelude.{ℕ, ◌+◌, ◌-◌, ◌*◌, ◌/◌, ◌%◌, ◌^◌, ◌<◌, ◌≤◌, ◌≡◌, Bool, take, set, ltb, leb, Ok, Err}
-use Rattle.std.proofs.Common.{arith, add-one, ap, ap₂, ◌∙◌, ⊎_elim, length-set}
+use Rattle.std.proofs.Common.{arith, add-one, ap, ap₂, ◌∙◌, ⊎_elim}
 use Rattle.std.proofs.Math.Path.{refl, sym}
 use Rattle.std.proofs.Math.Bool.{true, false, cond}
 use mathlib.Core.List.Memᴰ
@@ -109,7 +109,8 @@ node-unpacked number class h =
     made : (value number class : ℕ) → Node ℕ
     made value number class = record { number = number; class = class; value = value }
 
-module _ (d : PackedInstance) (class : ℕ) (arms : List ℕ) (addable : Addable d) where
+module _ (d : PackedInstance) (class : ℕ) (arms : List ℕ) (addable : Addable d)
+    (node_room : length d.nodes ≡ Limits.nodes) (edge_room : length d.edges ≡ Limits.edges) where
   abbrev old : Instance
   old = unpack_instance d
 
@@ -120,7 +121,7 @@ module _ (d : PackedInstance) (class : ℕ) (arms : List ℕ) (addable : Addable
   total = d.size + length arms
 
   pub nodes-inside : d.order ≤ length d.nodes
-  nodes-inside = omega (arith, addable.few_nodes, addable.node_room)
+  nodes-inside = omega (arith, addable.few_nodes, node_room)
 
   pub nodes-part : d.order ≡ length (take d.order d.nodes)
   nodes-part = sym (length-take-le d.order d.nodes nodes-inside)
@@ -132,7 +133,7 @@ module _ (d : PackedInstance) (class : ℕ) (arms : List ℕ) (addable : Addable
   judged-grown =
       let o : length (map unpack_node front) ≡ d.order = length-map front unpack_node ∙ sym nodes-part in
       let s : length (map unpack_triple (take d.size d.edges)) ≡ d.size =
-      length-map (take d.size d.edges) unpack_triple ∙ length-take-le d.size d.edges (omega (arith, addable.few_edges, addable.edge_room)) in
+      length-map (take d.size d.edges) unpack_triple ∙ length-take-le d.size d.edges (omega (arith, addable.few_edges, edge_room)) in
       let a : length (map (edge_at (next_number (map unpack_node front))) (map unpack_arm arms)) ≡ length arms =
       length-map (map unpack_arm arms) (edge_at (next_number (map unpack_node front))) ∙ length-map arms unpack_arm in
       rw (o, s, a)
@@ -154,7 +155,7 @@ module _ (d : PackedInstance) (class : ℕ) (arms : List ℕ) (addable : Addable
           outcome =
               ap (λ w. judged w (grown class (map unpack_arm arms) old)) (e ∙ ap (λ n. verdict_for d.order n total) next)
               ∙ judged-grown;
-          addable = tt;
+          addable = addable;
         }
 
     module _ (done : Ok tt ≡ verdict_for d.order number total) where
@@ -162,7 +163,7 @@ module _ (d : PackedInstance) (class : ℕ) (arms : List ℕ) (addable : Addable
       room = roomy d.order number total (sym done)
 
       pub node-within : d.order < length d.nodes
-      node-within = omega (arith, room.0, addable.node_room)
+      node-within = omega (arith, room.0, node_room)
 
       pub number-below : number < 2 ^ 16
       number-below = omega (arith, room.1)
@@ -174,7 +175,7 @@ module _ (d : PackedInstance) (class : ℕ) (arms : List ℕ) (addable : Addable
       key_fits h = omega (arith, number-below)
 
       pub edges_fit : d.size + length arms ≤ length d.edges
-      edges_fit = omega (arith, room.2, addable.edge_room)
+      edges_fit = omega (arith, room.2, edge_room)
 
       module _ (in_classes : class < 2 ^ 6) (small : Below (2 ^ 22) arms) (edges' : List ℕ)
           (put : take (d.size + length arms) edges' ≡ take d.size d.edges ++ map (λ a. number * 2 ^ 22 + a) arms)
@@ -229,8 +230,6 @@ module _ (d : PackedInstance) (class : ℕ) (arms : List ℕ) (addable : Addable
         grows-on : Addable d'
         grows-on =
             record {
-              node_room = length-set d.nodes d.order key ∙ addable.node_room;
-              edge_room = long ∙ addable.edge_room;
               few_nodes = omega (arith, room.0);
               few_edges = room.2;
               nodes_rise = rw one_more rises-on;

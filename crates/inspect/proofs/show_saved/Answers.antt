@@ -9,5 +9,5 @@ slice_bounds-blanks-count g c = let room = saved-room c.save.ensures c.in-Ok.is 
 pub slice_bounds-blanks-start : goal.slice_bounds-blanks-start
 slice_bounds-blanks-start g c = let room = saved-room c.save.ensures c.in-Ok.is in omega arith
 
-pub save_closely-requires-clause-length_le_most_of_drawing : goal.save_closely-requires-clause-length_le_most_of_drawing
-save_closely-requires-clause-length_le_most_of_drawing g c = let room = saved-room c.save.ensures c.in-Ok.is in omega arith
+pub save_closely-requires : goal.save_closely-requires
+save_closely-requires g c = let room = saved-room c.save.ensures c.in-Ok.is in omega arith

@@ -1,10 +1,10 @@
 -- `keys::insert` meets its contract: the keys from the key's place on move up by one, and the key goes there. Assumes nothing.
 use Rattle.std.proofs.Common.{rules, arith, ◌+◌, take, set, ap, sym, ◌∙◌}
-use Rattle.keys.specs.Laws.Keys.{place_front, moved-up, join-there, join_apart}
+use Rattle.keys.specs.Laws.Keys.{place_front, moved-up, join-there, join-at}
 use Rattle.keys.proofs.insert.Goals as goal
 
-pub returns-then-has_key : goal.returns-then-has_key
-returns-then-has_key c = record { few = search rules; front = join-there _ _ c.requires.keys_value (sym c.if-has_key.true ∙ c.has_key.ensures) }
+pub returns-then-has : goal.returns-then-has
+returns-then-has c = record { few = search rules; front = join-there _ _ c.requires.keys_value (sym c.if-has.true ∙ c.has.ensures) }
 
 pub returns : goal.returns
 returns c =
@@ -13,5 +13,5 @@ returns c =
       few = search rules;
       front = ap (λ ks. take (c.args.count + 1) (set ks c.place-at.result c.args.key)) c.copy_within.ensures.after
           ∙ moved-up c.args.keys.now c.place-at.result c.args.count bound c.requires.count_in_bounds c.args.key
-          ∙ join_apart _ _ c.requires.keys_value _ c.place-at.ensures (sym c.if-has_key.false ∙ c.has_key.ensures);
+          ∙ join-at _ _ c.requires.keys_value _ c.place-at.ensures (sym c.if-has.false ∙ c.has.ensures);
     }

@@ -252,7 +252,7 @@ module _ (front : List ℕ) (key : ℕ) where
         sym (join-standing s r.0 r.1)
 
     module _ (at : ℕ) (place : at ≡ place_of key front) where
-      place-there : true ≡ member front key → at < length front
+      pub place-there : true ≡ member front key → at < length front
       place-there h = (there (placed front key rise at place) ((in-numbers front key).0 (sym h))).0
 
       pub cut-there : true ≡ member front key → take at front ++ drop (suc at) front ≡ keep (λ k. not (eqb k key)) front
@@ -261,8 +261,8 @@ module _ (front : List ℕ) (key : ℕ) where
           let r = there s ((in-numbers front key).0 (sym h)) in
           sym (keep-there s r.0 r.1)
 
-      pub join_apart : false ≡ member front key → take at front ++ key ∷ drop at front ≡ join_key key front
-      join_apart h = sym (join-absent (placed front key rise at place) (absent h))
+      pub join-at : false ≡ member front key → take at front ++ key ∷ drop at front ≡ join_key key front
+      join-at h = sym (join-absent (placed front key rise at place) (absent h))
 
 -- a key among the first keys stands before their end
 pub found_front : (ks : List ℕ) (count key at : ℕ) → keys_rise (take count ks) ≡ true → at ≡ place_of key (take count ks)

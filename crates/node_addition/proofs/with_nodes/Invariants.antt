@@ -3,4 +3,4 @@ use Rattle.node_addition.specs.Laws.Adding.{Adding}
 use Rattle.node_addition.proofs.with_nodes.Given as goal
 
 abbrev pub invariant-loop-key : goal.invariant-loop-key
-invariant-loop-key l = Adding l.class l.arms.parts.now l.keys l.initial.grown l.key-index l.grown
+invariant-loop-key l = Adding l.class l.arms.parts.now l.keys l.initial.instance l.key-index l.instance

@@ -90,13 +90,13 @@ module _ (class : ℕ) (arms keys : List ℕ) (d : PackedInstance) where
       unfolding added_for
       turn = sym h.left ∙ rw (drop-cons keys i 0, add-one i, ← here, ← g.outcome)
 
-      pub adding-refused : (r : Refusal) → v ≡ Err r → Makes (added_for class arms keys (unpack_instance d)) (Err r)
-      adding-refused r e = record { fits = tt; makes = sym (turn ∙ rw e) }
+      pub adding-refused : (r : Refusal) → v ≡ Err r → Makes (added_for class arms keys (unpack_instance d)) (Err r) next
+      adding-refused r e = record { fits = record { few_nodes = g.addable.few_nodes; few_edges = g.addable.few_edges }; makes = sym (turn ∙ rw e) }
 
       pub adding-next : v ≡ Ok tt → Adding class arms keys d (i + 1) next
-      adding-next e = record { addable = rw e at g.addable; left = sym (turn ∙ rw e) }
+      adding-next e = record { addable = g.addable; left = sym (turn ∙ rw e) }
 
-    pub adding-all : length keys ≤ i → Makes (added_for class arms keys (unpack_instance d)) (Ok grown)
+    pub adding-all : length keys ≤ i → Makes (added_for class arms keys (unpack_instance d)) (Ok tt) grown
     unfolding added_for
     adding-all l =
         record {

@@ -1,7 +1,7 @@
 -- `operations::finish` meets its contract: by the operation, the notes are what it asks, and it makes of them what is to be made. Assumes nothing.
 use Rattle.std.proofs.Common.{refl}
 use borrow.Author.Rules.{part_to_end, rules}
-use Rattle.operations.specs.Laws.Performed.{walked-able, walked-addable, walked-first, rising-rise, rising-sources, rising-numbers, rising-images, rising-few}
+use Rattle.operations.specs.Laws.Performed.{walked-able, walked-addable, walked-first, rising-sources, rising-numbers, rising-images, rising-few}
 use Rattle.operations.specs.Laws.Performed.{finish-nothing, finish-nodes, finish-edges, finish-without-nodes, finish-without-edges, finish-groups}
 use Rattle.operations.proofs.finish.Goals as goal
 
@@ -23,26 +23,17 @@ with_nodes-requires-clause-class_bound c = (walked-able c.requires).class c.in-N
 pub with_nodes-requires-clause-below : goal.with_nodes-requires-clause-below
 with_nodes-requires-clause-below c = (walked-able c.requires).arms c.in-NodeAddition.is
 
-pub with_edges-requires-clause-joined_value : goal.with_edges-requires-clause-joined_value
-with_edges-requires-clause-joined_value c = search (rising-rise, rules)
-
 pub with_edges-requires-clause-sources_in : goal.with_edges-requires-clause-sources_in
 with_edges-requires-clause-sources_in c = search (rising-sources, rules)
 
 pub without_nodes-requires-clause-below : goal.without_nodes-requires-clause-below
 without_nodes-requires-clause-below c = search (rising-numbers, rules)
 
-pub without_edges-requires-clause-gone_value : goal.without_edges-requires-clause-gone_value
-without_edges-requires-clause-gone_value c = search (rising-rise, rules)
-
 pub with_groups-requires-clause-addable : goal.with_groups-requires-clause-addable
 with_groups-requires-clause-addable c = search (walked-addable, rules)
 
 pub with_groups-requires-clause-edges_value : goal.with_groups-requires-clause-edges_value
 with_groups-requires-clause-edges_value c = (walked-able c.requires).edges_rise
-
-pub with_groups-requires-clause-images_value : goal.with_groups-requires-clause-images_value
-with_groups-requires-clause-images_value c = search (rising-rise, rules)
 
 pub with_groups-requires-clause-below : goal.with_groups-requires-clause-below
 with_groups-requires-clause-below c = search (rising-images, rules)
@@ -55,7 +46,7 @@ returns-in-PatternOnly c = search (finish-nothing, rules)
 
 pub returns-in-NodeAddition : goal.returns-in-NodeAddition
 returns-in-NodeAddition c =
-    finish-nodes c.requires _ (rw (part_to_end, c.coming.ensures) refl) _ c.in-NodeAddition.is c.with_nodes.ensures
+    finish-nodes c.requires _ (rw (part_to_end, c.coming.ensures) refl) _ _ c.in-NodeAddition.is c.with_nodes.ensures
 
 pub returns-in-EdgeAddition : goal.returns-in-EdgeAddition
 returns-in-EdgeAddition c = search (finish-edges, rules)

@@ -1,6 +1,7 @@
 -- What apply's calls ask and give, with premises as the code leaves them. Assumes nothing.
 use Rattle.std.specs.Prelude.{ℕ, ◌≡◌, List, length, Result}
 use Rattle.std.proofs.Common.{◌∙◌, ap}
+use Rattle.std.specs.Bool.{⊤}
 use Rattle.model.specs.Operations.{applied}
 use Rattle.model.specs.declared.Refusal.{Refusal}
 use Rattle.graph.specs.Packed.{unpack_scheme, unpack_instance, unpack_rule, StoredInstance, StoredRule}
@@ -24,8 +25,8 @@ module _ (s : PackedScheme) (d : PackedInstance) (r : PackedRule) (h : StoredIns
   unfolding walked
   all-walked what first m before after b f l v = record { instance = h; rule = k; before = f ∙ ap length b; notes = rw (← l, ← b) v.notes }
 
-  pub report-is : (a : Result Applied Refusal) (m : ℕ) (c : Result PackedInstance Refusal) (what : Noting) (before after : List ℕ)
+  pub report-is : (a : Result Applied Refusal) (m : ℕ) (c : Result ⊤ Refusal) (new : PackedInstance) (what : Noting) (before after : List ℕ)
       → VisitsAll d r.pattern what before m after
-      → Makes (applied (unpack_scheme s) (unpack_rule r) (unpack_instance d)) c → Reports d m c a → Applies s d r a
+      → Makes (applied (unpack_scheme s) (unpack_rule r) (unpack_instance d)) c new → Reports d m c new a → Applies s d r a
   unfolding unpack_rule
-  report-is a m c what before after v makes e = rw e.report (report-applies s d r h k e.old-room m v.counted c e.new-room makes)
+  report-is a m c new what before after v makes e = rw e.report (report-applies s d r h k new m v.counted c e.old-room e.new-room makes)

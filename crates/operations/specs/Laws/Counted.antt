@@ -1,11 +1,12 @@
 -- What is reported is what document 01 counts: an operation only adds or only removes, so the numbers of nodes and edges tell how many. Assumes
 -- nothing.
-use Rattle.std.specs.Prelude.{ℕ, ◌+◌, ◌-◌, ◌≤◌, ◌≡◌, refl, ◌⊎◌, List, length, Result, Ok, Err, IfOk}
+use Rattle.std.specs.Prelude.{ℕ, ◌+◌, ◌-◌, ◌≤◌, ◌≡◌, refl, ◌⊎◌, List, length, Result, Ok, Err}
 use Rattle.std.proofs.Common.{arith, sym, ◌∙◌, ⊎_elim}
 use Rattle.std.proofs.Math.Path.{ap, ap₂}
 use Rattle.std.proofs.Math.Logic.{inl, inr}
 use Rattle.std.proofs.Math.ListN.{length-map}
 use Rattle.std.proofs.Math.Seq.{length-take-le}
+use Rattle.std.specs.Bool.{⊤}
 use Rattle.model.specs.Limits
 use Rattle.model.specs.Graph.{Scheme, Instance, Pattern}
 use Rattle.model.specs.Matching.{matchings}
@@ -106,17 +107,17 @@ module _ (s : PackedScheme) (d : PackedInstance) (r : PackedRule) (h : StoredIns
           (difference-made (new.order - d.order) (new.size - d.size) reported-counts.added nodes.0 edges.0)
           (difference-made (d.order - new.order) (d.size - new.size) reported-counts.removed nodes.1 edges.1)
 
-      done-applies : Applies s d r (report_of d m (Ok new))
+      done-applies : Applies s d r (report_of d m (Ok tt) new)
       done-applies = record {
         answer = rw o (ap (λ (c : Counts). accepted (counted c)) counts-are);
         instance = sym o;
         stored = λ n e. let same : n.instance ≡ new = cc in rw same (record { few_nodes = fits.few_nodes; few_edges = fits.few_edges; sound = new-sound });
       }
 
-  refused-applies : (m : ℕ) (x : Refusal) → outcome ≡ refused x → Applies s d r (report_of d m (Err x))
-  refused-applies m x o = record { answer = rw o refl; instance = sym o; stored = λ n e. let z : ◌≡◌ {A = ℕ} 0 1 = cc in absurd (omega arith) }
+  refused-applies : (new : PackedInstance) (m : ℕ) (x : Refusal) → outcome ≡ refused x → Applies s d r (report_of d m (Err x) new)
+  refused-applies new m x o = record { answer = rw o refl; instance = sym o; stored = λ n e. let z : ◌≡◌ {A = ℕ} 0 1 = cc in absurd (omega arith) }
 
-  pub report-applies : (room : Roomy d) (m : ℕ) → m ≡ length (matchings (unpack_rule r).pattern (unpack_instance d))
-      → (changed : Result PackedInstance Refusal) → IfOk changed Roomy → Makes outcome changed → Applies s d r (report_of d m changed)
-  report-applies room m all (Ok new) new_room makes = done-applies room m all new new_room makes.fits (sym makes.makes)
-  report-applies room m all (Err x) new_room makes = refused-applies m x (sym makes.makes)
+  pub report-applies : (new : PackedInstance) (m : ℕ) → m ≡ length (matchings (unpack_rule r).pattern (unpack_instance d))
+      → (changed : Result ⊤ Refusal) → Roomy d → Roomy new → Makes outcome changed new → Applies s d r (report_of d m changed new)
+  report-applies new m all (Ok x) old_room new_room makes = done-applies old_room m all new new_room makes.fits (sym makes.makes)
+  report-applies new m all (Err x) old_room new_room makes = refused-applies new m x (sym makes.makes)

@@ -1,9 +1,10 @@
 -- What is made of the notes is what document 01 says of the operation: the laws of each operation, put together. Assumes nothing.
-use Rattle.std.specs.Prelude.{ℕ, ◌^◌, ◌≤◌, ◌≡◌, true, List, drop, Result, Ok}
+use Rattle.std.specs.Prelude.{ℕ, ◌^◌, ◌≤◌, ◌≡◌, true, List, drop, ⊤, Result, Ok}
 use Rattle.std.proofs.Common.{arith, ◌∙◌}
 use Rattle.std.proofs.Math.Path.{refl, ap}
 use Rattle.std.proofs.Math.ListN.{length}
 use Rattle.lists.specs.Lists.{each, Below}
+use Rattle.std.specs.Bool.{⊤}
 use Rattle.model.specs.Limits
 use Rattle.model.specs.Graph.{Scheme, Instance}
 use Rattle.model.specs.Operations.{abstract, applied, perform}
@@ -110,10 +111,8 @@ module _ {s : PackedScheme} {d : PackedInstance} {r : PackedRule} {first : ℕ} 
   pub walked-able : Able d r.action
   walked-able = able w.instance w.rule
 
-  pub walked-addable : length d.nodes ≡ Limits.nodes → length d.edges ≡ Limits.edges → Addable d
-  walked-addable n e = record {
-    node_room = n;
-    edge_room = e;
+  pub walked-addable : Addable d
+  walked-addable = record {
     few_nodes = walked-able.fits.few_nodes;
     few_edges = walked-able.fits.few_edges;
     nodes_rise = walked-able.nodes_rise;
@@ -147,26 +146,26 @@ module _ {s : PackedScheme} {d : PackedInstance} {r : PackedRule} {first : ℕ} 
       pub rising-few : r.action.operation ≡ Abstraction → length ks ≤ Limits.nodes
       rising-few e = rw keys (few-5 w.instance w.rule e)
 
-      pub finish-edges : (c : Result PackedInstance Refusal) → r.action.operation ≡ EdgeAddition
-          → Makes (joined_to (unpack_scheme s) ks (unpack_instance d)) c → Makes made c
-      finish-edges c e m = rw (← made-2 w.instance w.rule e, ← keys) m
+      pub finish-edges : (c : Result ⊤ Refusal) (new : PackedInstance) → r.action.operation ≡ EdgeAddition
+          → Makes (joined_to (unpack_scheme s) ks (unpack_instance d)) c new → Makes made c new
+      finish-edges c new e m = rw (← made-2 w.instance w.rule e, ← keys) m
 
-      pub finish-without-nodes : (new : PackedInstance) → r.action.operation ≡ NodeDeletion → WithoutNodes ks d new → Makes made (Ok new)
+      pub finish-without-nodes : (new : PackedInstance) → r.action.operation ≡ NodeDeletion → WithoutNodes ks d new → Makes made (Ok tt) new
       finish-without-nodes new e m = record { fits = m.fits; makes = rw (← made-3 w.instance w.rule e, ← keys) (ap accepted m.left) }
 
-      pub finish-without-edges : (new : PackedInstance) → r.action.operation ≡ EdgeDeletion → WithoutEdges ks d new → Makes made (Ok new)
+      pub finish-without-edges : (new : PackedInstance) → r.action.operation ≡ EdgeDeletion → WithoutEdges ks d new → Makes made (Ok tt) new
       finish-without-edges new e m = record { fits = m.fits; makes = rw (← made-4 w.instance w.rule e, ← keys) (ap accepted m.left) }
 
-      pub finish-groups : (c : Result PackedInstance Refusal) → r.action.operation ≡ Abstraction
-          → Makes (grouped_to (group_class r.action.head) (group_a r.action.head) (group_b r.action.head) ks (unpack_instance d)) c
-          → Makes made c
-      finish-groups c e m = rw (← made-5 w.instance w.rule e, ← keys) m
+      pub finish-groups : (c : Result ⊤ Refusal) (new : PackedInstance) → r.action.operation ≡ Abstraction
+          → Makes (grouped_to (group_class r.action.head) (group_a r.action.head) (group_b r.action.head) ks (unpack_instance d)) c new
+          → Makes made c new
+      finish-groups c new e m = rw (← made-5 w.instance w.rule e, ← keys) m
 
-    pub finish-nodes : ks ≡ drop first log → (c : Result PackedInstance Refusal) → r.action.operation ≡ NodeAddition
-        → Makes (added_for r.action.head (parts_of r.action) ks (unpack_instance d)) c → Makes made c
-    finish-nodes rest c e m =
+    pub finish-nodes : ks ≡ drop first log → (c : Result ⊤ Refusal) (new : PackedInstance) → r.action.operation ≡ NodeAddition
+        → Makes (added_for r.action.head (parts_of r.action) ks (unpack_instance d)) c new → Makes made c new
+    finish-nodes rest c new e m =
         let same : ks ≡ drop (length (begun d r.action)) (walked d r) = rest ∙ rw (w.before, w.notes) refl in
         rw (← made-1 w.instance w.rule e, ← same) m
 
-  pub finish-nothing : r.action.operation ≡ PatternOnly → Makes made (Ok d)
+  pub finish-nothing : r.action.operation ≡ PatternOnly → Makes made (Ok tt) d
   finish-nothing e = record { fits = walked-able.fits; makes = made-0 w.instance w.rule e }

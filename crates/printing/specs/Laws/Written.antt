@@ -1,6 +1,6 @@
 -- A line as it is written: its key, a byte =, and its numbers, each with what ends it.
 -- By what is left: the bytes of the numbers from i on are what is left of the bytes of all.
-use Rattle.std.specs.Prelude.{ℕ, suc, ◌+◌, ◌*◌, ◌-◌, ◌^◌, ◌<◌, ◌≤◌, ◌≡◌, refl, List, [], ◌∷◌, ◌++◌, get_or, take, drop, set}
+use Rattle.std.specs.Prelude.{ℕ, suc, ◌+◌, ◌*◌, ◌-◌, ◌^◌, ◌<◌, ◌≤◌, ◌≡◌, refl, List, [], ◌∷◌, ◌++◌, get_or, take, drop, set, sum_by}
 use native.Mathlib.Omega.{arith}
 use Rattle.std.proofs.Math.Numerals.{add-one}
 use Rattle.std.proofs.Math.Path.{ap}
@@ -8,7 +8,10 @@ use Rattle.std.proofs.Common.{◌∙◌, sym, subst, append_assoc, length-set, d
 use Rattle.std.proofs.Math.ListN.{length, length-append, length-drop}
 use Rattle.std.proofs.Math.Seq.{take-append_seam}
 use borrow.Author.Rules.{part_to_end}
+use Rattle.std.proofs.lemmas.List.Sums.{sum_by-cons, sum_by-le}
+use Rattle.std.proofs.lemmas.Grind.{get_or_default_zero}
 use Rattle.lists.specs.Decimal.{decimal, most_digits}
+use Rattle.lists.proofs.Laws.Decimal.{word-length}
 use Rattle.lists.specs.Radix.{unrank, lowest}
 use Rattle.lists.specs.Buffers.{Writes}
 use Rattle.lists.proofs.Laws.Radix.{unrank-length}
@@ -76,6 +79,20 @@ module _ {numbers : List ℕ} where
       omega (arith, c.left, ap length (number-none numbers i h)),
       omega (arith, c.small, c.few, c.reached),
     )
+
+-- as a sum over the numbers
+pub numbers-counted : (ns : List ℕ) → sum_by (λ n. length (decimal n) + 1) ns ≡ length (numbers_text ns)
+unfolding numbers_text
+numbers-counted [] = refl
+numbers-counted (n ∷ ns) =
+    sum_by-cons (λ m. length (decimal m) + 1) n ns ∙ omega (arith, numbers-counted ns, length-append (decimal n) (ender (length ns) ∷ numbers_text ns))
+
+pub numbers-short : (ns : List ℕ) → length ns ≤ most_numbers → ((i : ℕ) → get_or ns i 0 < 2 ^ 64)
+    → sum_by (λ n. length (decimal n) + 1) ns ≤ most_of_numbers
+numbers-short ns few words =
+    let each = sum_by-le (λ n. length (decimal n) + 1) (most_digits + 1) ns
+    (λ k d l. rw (get_or_default_zero ns k d l) (let short = word-length (get_or ns k 0) (words k) in omega arith)) in
+    omega (arith, each, few)
 
 -- # Writing them
 pub record Printing (numbers before : List ℕ) (at i : ℕ) (now : List ℕ) : Type 0 where

@@ -1,13 +1,13 @@
 -- Reading a drawing file: what holds whenever the next line is read, and the answer that comes of it. What stands in the drawing is the scheme
 -- and the instance of the lines above.
-use Rattle.std.specs.Prelude.{ℕ, ◌+◌, ◌^◌, ◌≤◌, ◌<◌, ◌≡◌, true, List, map, length, take, Option, None, Some, option_map, Result, Ok, Err}
+use Rattle.std.specs.Prelude.{ℕ, ◌+◌, ◌-◌, ◌^◌, ◌≤◌, ◌<◌, ◌≡◌, refl, true, List, map, length, take, Option, None, Some, Result, Ok, Err}
 use Rattle.std.specs.Bool.{⊤}
-use Rattle.std.proofs.Common.{arith, add-one, ap, subst, ◌∙◌, length-take-le}
+use Rattle.std.proofs.Common.{arith, add-one, ◌∙◌, length-take-le}
 use Rattle.std.proofs.Math.Path.{sym}
 use Rattle.std.proofs.lemmas.Bool.{false≢true}
 use Rattle.std.proofs.lemmas.List.{length-map}
 use Rattle.model.specs.Limits
-use Rattle.model.specs.Refusals.{refused}
+use Rattle.model.specs.Refusals.{accepted}
 use Rattle.model.specs.Files.DrawingFile.{drawing_format, read_drawing}
 use Rattle.model.specs.declared.Refusal.{Refusal}
 use Rattle.model.specs.declared.Refusal.TheVariants.{Malformed}
@@ -20,10 +20,12 @@ use Rattle.text.specs.declared.lines.Last.{Last}
 use Rattle.graph.specs.Packed.{unpack_triple, unpack_node, unpack_scheme, unpack_instance, StoredScheme, StoredInstance}
 use Rattle.verdicts.specs.NextLine.{LineAt, Unended, LineBytes}
 use Rattle.standing.specs.Held.{Fits, Held, FreshDrawing, Room, KeptLine}
-use Rattle.verdicts.proofs.Laws.NextLine.{unended-no-line, out-of-form, line-here}
+use Rattle.verdicts.proofs.Laws.NextLine.{unended-no-line, next-line-read, no-line-read}
+use Rattle.verdicts.proofs.Laws.Pieces.{begins, IsRest}
 use Rattle.drawing_lines.specs.DrawingLines.{drawing_verdict, Coming}
 use Rattle.reading.specs.Readers.{ReadDrawing}
 use Rattle.standing.specs.declared.Drawing.{Drawing}
+use Rattle.reading.specs.declared.whole.Whole.{Whole}
 use Rattle.reading.specs.Laws.DrawingReached.{Reached, RoomFor, passing-room, reached-none, reached-next, reached-end}
 use Rattle.reading.specs.Laws.DrawingReached.{reached-sound, triples-rise, numbers-rise, out-of-form-refused, failing-refused}
 
@@ -53,19 +55,6 @@ room-held d f Edge row h q =
     record { kind = h; room = stand-fewer unpack_triple d.instance.size d.instance.edges Limits.edges f.edges_room f.size q }
 room-held d f _ row h q = absurd (false≢true h)
 
--- the drawing that is accepted
-ok-is : (P : Drawing → Type 0) {d e : Drawing} → ◌≡◌ {A = Result Drawing Refusal} (Ok d) (Ok e) → P d → P e
-ok-is P {d} {e} i p = let same : d ≡ e = cc in subst P same p
-
--- a text that is refused holds nothing
-refused-read : {text : List ℕ} {x : Refusal} → read_drawing text ≡ refused x → ReadDrawing text (Err x)
-refused-read e =
-    record {
-      answer = sym e;
-      scheme = λ d h. let z : ◌≡◌ {A = ℕ} 0 1 = cc in absurd (omega arith);
-      instance = λ d h. let z : ◌≡◌ {A = ℕ} 0 1 = cc in absurd (omega arith);
-    }
-
 module _ {text : List ℕ} {at : ℕ} {last : Last} {d : Drawing} (r : ReadTo text at last d) where
   -- what stands can be searched
   pub read-to-held : Held d
@@ -74,14 +63,14 @@ module _ {text : List ℕ} {at : ℕ} {last : Last} {d : Drawing} (r : ReadTo te
   module _ (left : at < length text) where
     -- no byte 10 ends the line
     pub unended-read : Unended text at → ReadDrawing text (Err (Malformed (last.lines + 1)))
-    unended-read u = refused-read (rw add-one (out-of-form-refused r.reached (unended-no-line drawing_format text at left u)))
+    unended-read u = sym (rw add-one (out-of-form-refused r.reached (unended-no-line drawing_format text at left u)))
 
     module _ {s : List ℕ} (found : LineBytes text at s) {o : Option Line} (parsed : DrawingParsed s o) where
       -- a line out of form
       pub malformed-read : o ≡ None → ReadDrawing text (Err (Malformed (last.lines + 1)))
       malformed-read n =
-          refused-read
-          (rw add-one (out-of-form-refused r.reached (out-of-form drawing_format text at left found (ap (option_map drawing_line) (sym n) ∙ parsed.line))))
+          sym
+          (rw add-one (out-of-form-refused r.reached (no-line-read drawing_format text at left found drawing_line parsed.line n)))
 
       -- the next line
       module _ {l : Line} (is : o ≡ Some l) where
@@ -89,7 +78,7 @@ module _ {text : List ℕ} {at : ℕ} {last : Last} {d : Drawing} (r : ReadTo te
         next = at + length s + 1
 
         stands : LineAt drawing_format text at (drawing_line l) next
-        stands = line-here drawing_format text at left found (drawing_line l) (ap (option_map drawing_line) (sym is) ∙ parsed.line)
+        stands = next-line-read drawing_format text at left found drawing_line parsed.line is
 
         tabled : Tabled l
         tabled = (parsed.tabled l is).0
@@ -97,13 +86,17 @@ module _ {text : List ℕ} {at : ℕ} {last : Last} {d : Drawing} (r : ReadTo te
         kind : of_drawing l.kind ≡ true
         kind = (parsed.tabled l is).1
 
+        -- less of the text is left after it
+        pub read-to-less : length text - next < length text - at
+        read-to-less = omega (arith, stands.later, stands.within)
+
         pub read-to-coming : last.lines + 1 < 2 ^ 64 → Coming last l
         read-to-coming h =
             record { above = r.reached.tabled; few = omega arith; tabled = tabled; kind = kind; in-form = stands.in-form }
 
         module _ {v : Result ⊤ Refusal} (asked : v ≡ drawing_verdict (unpack_scheme d.scheme) (unpack_instance d.instance) last l) where
           pub failing-read : {x : Refusal} → v ≡ Err x → ReadDrawing text (Err x)
-          failing-read {x} e = refused-read (failing-refused r.reached stands tabled kind x (sym asked ∙ e))
+          failing-read {x} e = sym (failing-refused r.reached stands tabled kind x (sym asked ∙ e))
 
           module _ (e : v ≡ Ok tt) where
             pub read-to-room : Room d l
@@ -117,25 +110,37 @@ module _ {text : List ℕ} {at : ℕ} {last : Last} {d : Drawing} (r : ReadTo te
                   fits = k.fits;
                 }
 
-  -- at the end, what stands is the answer
-  pub read-to-end : length text ≤ at → ReadDrawing text (Ok d)
+  -- at the end, what stands is the answer, and stored as it should be
+  pub read-to-end : length text ≤ at → accepted (record { scheme = unpack_scheme d.scheme; instance = unpack_instance d.instance }) ≡ read_drawing text
+  read-to-end h = sym (reached-end r.reached h)
+
+  pub scheme-stored : StoredScheme d.scheme
+  unfolding unpack_scheme
+  scheme-stored =
+      record { classes = r.fits.classes; names = r.fits.names; few = r.fits.permissions; listed = (reached-sound r.reached).scheme }
+
+  pub instance-stored : StoredInstance (unpack_scheme d.scheme) d.instance
   unfolding unpack_scheme unpack_instance
-  read-to-end h =
-      let sound = reached-sound r.reached in
-      record {
-        answer = sym (reached-end r.reached h);
-        scheme =
-            λ e i. ok-is (λ f. StoredScheme f.scheme) i
-            record { classes = r.fits.classes; names = r.fits.names; few = r.fits.permissions; listed = sound.scheme };
-        instance =
-            λ e i. ok-is (λ f. StoredInstance (unpack_scheme f.scheme) f.instance) i
-            record { few_nodes = r.fits.order; few_edges = r.fits.size; sound = sound };
-      }
+  instance-stored = record { few_nodes = r.fits.order; few_edges = r.fits.size; sound = reached-sound r.reached }
+
+-- # Piece by piece
+-- the text is read up to what is left of it
+pub record Reading (text rest : List ℕ) (last : Last) (d : Drawing) : Type 0 where
+  pub here : IsRest text rest
+  pub read : ReadTo text (begins text rest) last d
+
+pub reading-start : (text : List ℕ) {last : Last} {d : Drawing} → FreshDrawing d → FreshLast last → Reading text text last d
+reading-start text f h =
+    let start : begins text text ≡ 0 = omega arith in
+    record { here = rw start refl; read = rw start (read-to-start text f h) }
+
+-- fewer lines than bytes are read
+pub reading-few : {text rest : List ℕ} {last : Last} {d : Drawing} → Reading text rest last d → begins text rest < length text → last.lines < length text
+reading-few r left = omega (arith, left, r.read.reached.upto.few)
 
 -- # What was accepted
-module _ {text : List ℕ} {r : Result Drawing Refusal} (h : ReadDrawing text r) {d : Drawing} (opens : r ≡ Ok d) where
-  pub read-scheme : StoredScheme d.scheme
-  read-scheme = h.scheme d opens
+pub read-scheme : (w : Whole) → StoredScheme w.scheme
+read-scheme w = w.scheme_stored
 
-  pub read-instance : StoredInstance (unpack_scheme d.scheme) d.instance
-  read-instance = h.instance d opens
+pub read-instance : (w : Whole) → StoredInstance (unpack_scheme w.scheme) w.instance
+read-instance w = w.instance_stored

@@ -1,7 +1,7 @@
 -- Reading a rule text, with what stands kept in a stored rule: what holds whenever the next line is read, and the answer that comes of it.
-use Rattle.std.specs.Prelude.{ℕ, ◌+◌, ◌^◌, ◌≤◌, ◌<◌, ◌≡◌, refl, Bool, true, false, List, [], map, length, Option, None, Some, option_map, Result, Ok, Err}
+use Rattle.std.specs.Prelude.{ℕ, ◌+◌, ◌-◌, ◌^◌, ◌≤◌, ◌<◌, ◌≡◌, refl, Bool, true, false, List, [], map, length, Option, None, Some, Result, Ok, Err}
 use Rattle.std.specs.Bool.{⊤}
-use Rattle.std.proofs.Common.{arith, add-one, ap, sym, ◌∙◌, leb-false}
+use Rattle.std.proofs.Common.{arith, add-one, sym, ◌∙◌, leb-false}
 use Rattle.lists.specs.Order.{rising}
 use Rattle.model.specs.Limits
 use Rattle.model.specs.Graph.{Scheme, row, scheme_listed}
@@ -22,7 +22,8 @@ use Rattle.text.specs.declared.lines.Last.{Last}
 use Rattle.graph.specs.Packed.{FreshRule, unpack_pattern}
 use Rattle.graph.specs.declared.rule.PackedRule.{PackedRule}
 use Rattle.verdicts.specs.NextLine.{LineAt, Unended, LineBytes}
-use Rattle.verdicts.proofs.Laws.NextLine.{unended-no-line, out-of-form, line-here}
+use Rattle.verdicts.proofs.Laws.NextLine.{unended-no-line, next-line-read, no-line-read}
+use Rattle.verdicts.proofs.Laws.Pieces.{begins, IsRest}
 use Rattle.verdicts.proofs.Laws.Verdicts.{uncrowded}
 use Rattle.rule_lines.specs.RuleLines.{rule_verdict, FitsRule, HeldRule, Coming, lines_above}
 use Rattle.rule_lines.specs.Laws.RuleVerdict.{pattern-order, pattern-size}
@@ -105,7 +106,7 @@ module _ {s : Scheme} {text : List ℕ} {at : ℕ} {last : Last} {r : PackedRule
       malformed-read n =
           rw add-one
           (read-refused s text _
-          (out-of-form-refused read.reached (out-of-form (rule_format s) text at left found (ap (option_map rule_line) (sym n) ∙ parsed.line s))))
+          (out-of-form-refused read.reached (no-line-read (rule_format s) text at left found rule_line (parsed.line s) n)))
 
       -- the next line
       module _ {l : Line} (is : o ≡ Some l) where
@@ -113,13 +114,17 @@ module _ {s : Scheme} {text : List ℕ} {at : ℕ} {last : Last} {r : PackedRule
         next = at + length b + 1
 
         stands : LineAt (rule_format s) text at (rule_line l) next
-        stands = line-here (rule_format s) text at left found (rule_line l) (ap (option_map rule_line) (sym is) ∙ parsed.line s)
+        stands = next-line-read (rule_format s) text at left found rule_line (parsed.line s) is
 
         tabled : Tabled l
         tabled = (parsed.tabled l is).0
 
         kind : of_drawing l.kind ≡ false
         kind = (parsed.tabled l is).1
+
+        -- less of the text is left after it
+        pub read-to-less : length text - next < length text - at
+        read-to-less = omega (arith, stands.later, stands.within)
 
         pub read-to-coming : last.lines + 1 < 2 ^ 64 → Coming r last l
         read-to-coming h =
@@ -141,3 +146,19 @@ module _ {s : Scheme} {text : List ℕ} {at : ℕ} {last : Last} {r : PackedRule
                       rw (there, add-one last.lines, k.parts) (reached-next read.reached stands tabled kind listed r read.fits refl (sym asked ∙ e));
                   fits = k.fits;
                 }
+
+-- # Piece by piece
+-- the text is read up to what is left of it
+pub record Reading (s : Scheme) (text rest : List ℕ) (last : Last) (r : PackedRule) : Type 0 where
+  pub here : IsRest text rest
+  pub read : ReadTo s text (begins text rest) last r
+
+pub reading-start : (s : Scheme) (text : List ℕ) {last : Last} {r : PackedRule} → FreshRule r → FreshLast last → Reading s text text last r
+reading-start s text f h =
+    let start : begins text text ≡ 0 = omega arith in
+    record { here = rw start refl; read = rw start (read-to-start s text f h) }
+
+-- fewer lines than bytes are read
+pub reading-few : {s : Scheme} {text rest : List ℕ} {last : Last} {r : PackedRule} → Reading s text rest last r → begins text rest < length text
+    → last.lines < length text
+reading-few r left = omega (arith, left, r.read.reached.upto.few)

@@ -25,8 +25,8 @@ slice_bounds-answer_call-end c = (going _ _ _ _ _ _ c.goes_on.ensures c.loop-end
 pub overflow_mul-i : goal.overflow_mul-i
 overflow_mul-i c = let g = going _ _ _ _ _ _ c.goes_on.ensures c.loop-end-test.true in omega (arith, g.fits)
 
-pub answer_call-current-requires : goal.answer_call-current-requires
-answer_call-current-requires c =
+pub answer_call-requires : goal.answer_call-requires
+answer_call-requires c =
     let g = going _ _ _ _ _ _ c.goes_on.ensures c.loop-end-test.true in
     record { stored_session = c.loop-end.invariant.stored; answer_room_in_bounds = omega (arith, g.fits) }
 
@@ -38,7 +38,7 @@ loop-end-smaller c = let g = going _ _ _ _ _ _ c.goes_on.ensures c.loop-end-test
 
 pub loop-end-preserved : goal.loop-end-preserved
 loop-end-preserved c =
-    running-next c.loop-end.invariant (going _ _ _ _ _ _ c.goes_on.ensures c.loop-end-test.true) c.answer_call-current.ensures
+    running-next c.loop-end.invariant (going _ _ _ _ _ _ c.goes_on.ensures c.loop-end-test.true) c.answer_call.ensures
 
 pub shape_of-answers : goal.shape_of-answers
 shape_of-answers c = search (running-long, rules)

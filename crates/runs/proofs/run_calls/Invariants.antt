@@ -6,7 +6,7 @@ use Rattle.runs.proofs.run_calls.Given as goal
 
 abbrev pub invariant-loop-end : goal.invariant-loop-end
 invariant-loop-end l =
-    Running l.initial.current l.kinds l.bounds l.texts l.initial.answers l.i l.from l.current l.answers
+    Running l.initial.session l.kinds l.bounds l.texts l.initial.answers l.i l.from l.session l.answers
 
 abbrev pub decreases-loop-end : goal.decreases-loop-end
 decreases-loop-end l = length l.kinds - l.i

@@ -6,12 +6,15 @@ use Rattle.std.proofs.Common.{arith, add-one, ◌∙◌, append_assoc, append-ni
 use Rattle.std.proofs.Math.Path.{ap, sym, subst}
 use Rattle.std.proofs.Math.ListN.{get_or-eq_default, length, take, length-append, length-drop, drop_of_length-le}
 use Rattle.std.proofs.Math.Seq.{drop-cons}
-use borrow.Author.Tests.{ltb-true, ltb-false, leb-true, le-ltb, lt-ltb, le-leb, lt-leb}
+use borrow.Author.Tests.{ltb-true, ltb-false, leb-true}
 use Rattle.lists.specs.Lists.{each}
 use Rattle.lists.specs.Buffers.{at_front, WritesFrom}
 use Rattle.lists.proofs.Laws.Lists.{both, each_append}
-use Rattle.model.specs.Refusals.{Outcome}
+use Rattle.model.specs.Refusals.{Outcome, refused}
 use Rattle.model.specs.Record.{Call, Open, Apply, Undo, Close, Report}
+use Rattle.model.specs.Answers.{open_answer, apply_answer, step_answer}
+use Rattle.model.specs.declared.Counts.{Counts}
+use Rattle.model.specs.declared.Opened.{Opened}
 use Rattle.session.specs.Sessions.{StoredSession, Stepped}
 use Rattle.session.specs.Chains.{Chain, ends, goes}
 use Rattle.session.specs.declared.Session.{Session}
@@ -20,9 +23,9 @@ use Rattle.demands.proofs.Laws.Chains.{chain_runs}
 use Rattle.runs.specs.declared.Kind.{Kind}
 use Rattle.runs.specs.declared.Kind.TheVariants as kind
 use Rattle.runs.specs.declared.UnknownKind.{UnknownKind}
-use Rattle.runs.specs.Handed.{kind_count, Decodes, call_for, call_of, part, is_call, calls_from, calls_in, six_numbers, answer_room}
-use Rattle.runs.specs.Runs.{Performs, Runs, goes_on, Answered, Running}
-use Rattle.runs.specs.declared.Performed.{Performed}
+use Rattle.runs.specs.Handed.{kind_count, Decodes, call_for, call_of, part, is_call, calls_from, calls_in, in_six, six_numbers, answer_room}
+use Rattle.runs.specs.Runs.{Makes, Performs, Runs, goes_on, Answered, Running}
+use Rattle.model.specs.declared.Refusal.{Refusal}
 use Rattle.runs.specs.Laws.Answers.{six-long}
 
 -- what it goes on for
@@ -74,14 +77,39 @@ kind-call number text (Ok kind.Undo) e = rw (← e)
 kind-call number text (Ok kind.Close) e = rw (← e)
 kind-call number text (Err u) e = sym (get_or-eq_default (Open text ∷ Apply text ∷ Undo ∷ []) Close {n = number} (omega (arith, e.1)))
 
-pub answered : {call : Call} {s : Session} {p : Performed} {from : ℕ} {before after : List ℕ} → Performs call s p
-    → WritesFrom p.numbers from before (from + answer_room) after → Answered call s from before p.session after
+pub answered : {call : Call} {s t : Session} {numbers : List ℕ} {from : ℕ} {before after : List ℕ} → Performs call s numbers t
+    → WritesFrom numbers from before (from + answer_room) after → Answered call s from before t after
 answered {from = from} {before = before} {after = after} h w =
     record {
       answer = h.answer;
       stepped = h.stepped;
       written = subst (λ l. WritesFrom l from before (from + answer_room) after) h.numbers w;
     }
+
+-- what is made of each answer
+module _ {call : Call} {s t : Session} where
+  pub made-refused : {x : Refusal} → Stepped call s (refused x) [] t → Makes call s (Err x) t
+  unfolding six_numbers
+  made-refused {x} h = record { answer = refused x; stepped = h; numbers = refl }
+
+  pub made-open : {o : Opened} → Stepped call s (open_answer (Ok o)) [] t → Makes call s (Ok (o.classes ∷ o.names ∷ 0 ∷ 0 ∷ 0 ∷ [])) t
+  unfolding six_numbers
+  made-open {o} h = record { answer = open_answer (Ok o); stepped = h; numbers = refl }
+
+  pub made-apply : {n : Counts} → Stepped call s (apply_answer (Ok n)) [] t
+      → Makes call s (Ok (n.matchings ∷ n.added.nodes ∷ n.added.edges ∷ n.removed.nodes ∷ n.removed.edges ∷ [])) t
+  unfolding six_numbers
+  made-apply {n} h = record { answer = apply_answer (Ok n); stepped = h; numbers = refl }
+
+  -- of undo and close
+  pub made-step : Stepped call s (step_answer (Ok tt)) [] t → Makes call s (Ok (0 ∷ 0 ∷ 0 ∷ 0 ∷ 0 ∷ [])) t
+  unfolding six_numbers
+  made-step h = record { answer = step_answer (Ok tt); stepped = h; numbers = refl }
+
+-- the numbers of an answer that is made
+pub made-performs : {call : Call} {s t : Session} {r : Result (List ℕ) Refusal} {numbers : List ℕ} → Makes call s r t → numbers ≡ in_six r
+    → Performs call s numbers t
+made-performs h e = record { answer = h.answer; stepped = h.stepped; numbers = e ∙ h.numbers }
 
 -- # Chains
 -- one more call
@@ -203,7 +231,7 @@ module _ {s : Session} {kinds bounds texts before : List ℕ} {i from : ℕ} {cu
 
   -- the calls that are run are those that are done
   pub ran : {r : Bool} → r ≡ goes_on kinds bounds (length texts) places from i → r ≡ false
-      → Runs s (calls_in kinds bounds texts before) before (record { session = current; calls = i }) now
+      → Runs s (calls_in kinds bounds texts before) before i current now
   ran e f =
       let run = stopped (sym e ∙ f) in
       let chain = subst (λ cs. Chain s cs h.given current) (sym run) h.chain in

@@ -3,4 +3,4 @@ use Rattle.serving.specs.Laws.Serving.{Serving}
 use Rattle.serving.proofs.note_served.Given as goal
 
 abbrev pub invariant-loop-node : goal.invariant-loop-node
-invariant-loop-node l = Serving l.class l.arms.parts.now l.edges l.nodes l.initial.notes l.node-index l.notes
+invariant-loop-node l = Serving l.class l.arms.parts.now l.edges.keys.now l.nodes l.initial.notes l.node-index l.notes

@@ -6,8 +6,8 @@ use Rattle.serving.proofs.served_key.Goals as goal
 pub overflow_mul-key : goal.overflow_mul-key
 overflow_mul-key c = search (shifted_fits, rules)
 
-pub first_target-requires-clause-number_bound : goal.first_target-requires-clause-number_bound
-first_target-requires-clause-number_bound c = search (name-small, rules)
+pub first_target-requires : goal.first_target-requires
+first_target-requires c = search (name-small, rules)
 
 pub returns-in_err-key : goal.returns-in_err-key
 returns-in_err-key c = search (gathered-missed, rules)

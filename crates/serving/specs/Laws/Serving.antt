@@ -104,6 +104,9 @@ pub name-small : (arms : List ℕ) (i : ℕ) → Below (2 ^ 22) arms → i < len
 name-small arms i below l = omega (arith, below (arms ! i) (at_place arms i 0 l))
 
 module _ (edges : List ℕ) (number : ℕ) (arms : List ℕ) where
+  pub gathered_none : Gathered edges number arms 0 0
+  gathered_none = record { low = omega arith; leaves = refl }
+
   module _ (i key : ℕ) (h : Gathered edges number arms i key) where
     gathered-low : i < length arms → length arms ≤ Limits.arms → key < 2 ^ 48
     gathered-low l few = let three : 16 * i ≤ 48 = omega arith in lt_of_lt_of_le h.low (pow_mono three)
@@ -146,6 +149,9 @@ number_small nodes i below l = omega (arith, below (nodes ! i) (at_place nodes i
 module _ (class : ℕ) (arms edges nodes before : List ℕ) where
   abbrev pub Serving : (i : ℕ) (log : List ℕ) → Type 0
   Serving i log = note_all log (served_keys class arms edges (drop i nodes)) ≡ note_all before (served_keys class arms edges nodes)
+
+  pub serving-none : Serving 0 before
+  serving-none = refl
 
   module _ (i : ℕ) (log : List ℕ) (h : Serving i log) where
     module _ (l : i < length nodes) where

@@ -103,31 +103,31 @@ module _ (d : Drawing) (l : Line) (fits : Fits d) (room : Room d l) where
         names = m;
       }
 
-  pub kept-class : l.kind ≡ Class → {classes : Declarations} → DeclaredWith d.scheme.classes (l.row / 2) (l.row % 2) classes
+  pub kept-class : l.kind ≡ Class → {kind : ℕ} → kind ≡ l.row % 2 → {classes : Declarations} → DeclaredWith d.scheme.classes (l.row / 2) kind classes
       → KeptLine d l
       record {
         scheme = record { classes = classes; names = d.scheme.names; permitted = d.scheme.permitted; permissions = d.scheme.permissions };
         instance = d.instance;
       }
   unfolding unpack_scheme unpack_instance scheme_with instance_with
-  kept-class e made =
+  kept-class e is made =
       record {
         fits = fits-then made.snug fits.names refl refl refl fits.permissions fits.order fits.size;
-        scheme = rw (e, made.with);
+        scheme = rw (e, made.with, is);
         instance = rw e;
       }
 
-  pub kept-name : l.kind ≡ Name → {names : Declarations} → DeclaredWith d.scheme.names (l.row / 2) (l.row % 2) names
+  pub kept-name : l.kind ≡ Name → {kind : ℕ} → kind ≡ l.row % 2 → {names : Declarations} → DeclaredWith d.scheme.names (l.row / 2) kind names
       → KeptLine d l
       record {
         scheme = record { classes = d.scheme.classes; names = names; permitted = d.scheme.permitted; permissions = d.scheme.permissions };
         instance = d.instance;
       }
   unfolding unpack_scheme unpack_instance scheme_with instance_with
-  kept-name e made =
+  kept-name e is made =
       record {
         fits = fits-then fits.classes made.snug refl refl refl fits.permissions fits.order fits.size;
-        scheme = rw (e, made.with);
+        scheme = rw (e, made.with, is);
         instance = rw e;
       }
 

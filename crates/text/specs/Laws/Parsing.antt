@@ -1,14 +1,17 @@
 -- The line that a text is: the kind is looked up by its key, and its row is read.
 -- A key belongs to one kind, so that numbers out of form under it are a line out of form.
-use Rattle.std.specs.Prelude.{ℕ, suc, ◌+◌, ◌-◌, ◌<◌, ◌≤◌, Bool, true, false, cond, ◌&&◌, length, drop, option_map, Option, None, Some}
-use Rattle.std.proofs.Common.{arith, add-one, ◌∙◌, length-take-le}
+use Rattle.std.specs.Prelude.{ℕ, suc, ◌+◌, ◌-◌, ◌<◌, ◌≤◌, Bool, true, false, cond, ◌&&◌, ◌||◌, ltb, length, drop, option_map, unwrap_or, position, Option, None, Some}
+use Rattle.std.proofs.Common.{arith, add-one, ◌∙◌, length-take-le, ltb-true, ltb-false, lt-ltb}
+use Prim.Native.Nat.compare
 use Rattle.std.proofs.Math.Path.{◌≡◌, refl, ap, sym, subst}
 use mathlib.Core.List.{List, [], ◌∷◌, map}
 use Rattle.std.proofs.lemmas.Bool.{false≢true}
+use Rattle.std.proofs.lemmas.Option.{cond_some}
+use Rattle.std.specs.List.{position_or_len}
 use Rattle.std.proofs.Math.ListN.{take}
 use Rattle.std.proofs.Math.Dec.{eqb}
 use borrow.Author.Rules.{part_to_end}
-use Rattle.lists.specs.Lists.{find, ◌∈◌}
+use Rattle.lists.specs.Lists.{any, find, ◌∈◌}
 use Rattle.lists.specs.Order.{same}
 use Rattle.lists.specs.Text.{pieces}
 use Rattle.lists.specs.Decimal.{value}
@@ -29,7 +32,7 @@ use Rattle.forms.specs.Forms.{drawing_kinds, rule_kinds, of_drawing, kind_of, ke
 use Rattle.text.specs.Lines.{row_numbers, drawing_line, rule_line, Tabled, table_format, packed_line, kind_with, line_in, row_in}
 use Rattle.text.specs.Lines.{DrawingParsed, RuleParsed}
 use Rattle.forms.specs.Laws.KeyNumbers.{Bytes, bytes_take, key-same}
-use Rattle.numerals.specs.Laws.Scan.{up_to-bound, pieces-up-to, pieces_whole}
+use Rattle.numerals.specs.Laws.Scan.{up_to-bound, up_to-found, pieces-up-to, pieces_whole}
 use Rattle.forms.specs.Laws.Kinds.{kind-roomy, kind-spelled, keys-apart, drawing-form, rule-form}
 use Rattle.text.specs.Laws.Rows.{tested-is, tested-not}
 use Rattle.forms.specs.declared.LineKind.{LineKind}
@@ -114,6 +117,19 @@ module _ {s word numbers : List ℕ} (p : Parted s word numbers) (kinds : List L
         rw (p.parts, suits-not word numbers kind kinds (found ∙ e) t)
 
 -- # Where the byte = stands
+module _ (s : List ℕ) {o : Option ℕ} (sought : o ≡ position (λ b. eqb b 61) s) where
+  pub equals-at : {n : ℕ} → o ≡ Some n → n ≡ up_to 61 s
+  equals-at e = ap (λ r. unwrap_or r (length s)) (sym e ∙ sought) ∙ up_to-found 61 s
+
+  pub equals-before : {n : ℕ} → o ≡ Some n → n < length s
+  equals-before {n} e =
+      let m = position_or_len (λ b. eqb b 61) s in
+      let r = cond_some (ltb m (length s)) m n (sym (sym e ∙ sought)) in
+      rw r.1 at (ltb-true m (length s) r.0)
+
+  pub equals-nowhere : o ≡ None → length s ≡ up_to 61 s
+  equals-nowhere e = ap (λ r. unwrap_or r (length s)) (sym e ∙ sought) ∙ up_to-found 61 s
+
 module _ (s : List ℕ) {n : ℕ} (found : n ≡ up_to 61 s) where
   pub without-equals : (kinds : List LineKind) → n ≡ length s → None ≡ line_in kinds s
   unfolding line_in
@@ -143,6 +159,24 @@ module _ (s : List ℕ) {n : ℕ} (found : n ≡ up_to 61 s) where
 
       pub parted : Bytes s → length after ≤ u → Parted s (take n s) after
       parted b l = record { spelled = bytes_take n s b; parts = rw (two-parts, pieces_whole 61 after (omega arith)) }
+
+-- a byte = that is among others stands before their end
+up_to-any : (s : List ℕ) → any (λ b. eqb b 61) s ≡ ltb (up_to 61 s) (length s)
+unfolding up_to
+up_to-any [] = refl
+up_to-any (x ∷ xs) = go (eqb x 61) (up_to-any xs)
+  where
+    go : (t : Bool) → any (λ b. eqb b 61) xs ≡ ltb (up_to 61 xs) (length xs)
+        → (t || any (λ b. eqb b 61) xs) ≡ ltb (cond t 0 (suc (up_to 61 xs))) (suc (length xs))
+    go true h = sym (lt-ltb 0 (suc (length xs)) (omega arith))
+    go false h = rw compare.suc-suc h
+
+module _ (s : List ℕ) {t : Bool} (found : t ≡ any (λ b. eqb b 61) s) where
+  pub equals-again : t ≡ true → up_to 61 s < length s
+  equals-again e = ltb-true _ _ (sym (up_to-any s) ∙ sym found ∙ e)
+
+  pub no-equals-again : t ≡ false → length s ≤ up_to 61 s
+  no-equals-again e = ltb-false _ _ (sym (up_to-any s) ∙ sym found ∙ e)
 
 -- # The same line in another format
 module _ (kinds : List LineKind) (s : List ℕ) where

@@ -23,8 +23,7 @@ use Rattle.writing.proofs.Laws.Stored.{stored_short}
 use Rattle.session.specs.Sessions.{unpack_session, StoredSession, NewSession, Stepped}
 use Rattle.session.proofs.Laws.Steps.{shut-is, open_is}
 use Rattle.session.specs.declared.Session.{Session}
-use Rattle.calls.specs.declared.Left as calls
-use Rattle.trials.specs.Trials.{most_of_done, most_of_trial, refused_text, counts_text, applied_text, apply_text}
+use Rattle.trials.specs.Trials.{most_of_done, most_of_trial, refused_text, counts_text, applied_text, apply_text, Tried}
 
 -- # What the record has accepted or refused
 module _ {call : Call} {s after : Session} {buffer : List ℕ} where
@@ -37,38 +36,47 @@ module _ {call : Call} {s after : Session} {buffer : List ℕ} where
   refuses-so : {x : Refusal} → Stepped call s (refused x) buffer after → accept (unpack_session s) call ≡ refused x
   refuses-so st = (step-refuses (unpack_session s) call).0 (sym st.answers)
 
--- # Open
-module _ {new : Session} (n : NewSession new) {job : List ℕ} {left : calls.Left Opened}
-    (st : Stepped (Open job) new (open_answer left.answer) [] left.session) (rule : List ℕ) {out : List ℕ} {taken : ℕ} {after : List ℕ} where
-  pub trial-opened : {o : Opened} → left.answer ≡ Ok o
-      → Writes (apply_text (unpack_session left.session) rule) out taken after → Writes (trial job rule) out taken after
-  unfolding trial apply_text
-  trial-opened e w =
-      let a = accepts-so (rw e at st) in
-      let opens = subst (λ r. accept r (Open job) ≡ accepted a.0) n.shut a.1 in
-      rw (opens, a.3) w
-
-  pub trial-refused : {x : Refusal} → left.answer ≡ Err x
-      → Writes (refused_text x) out taken after → Writes (trial job rule) out taken after
-  unfolding trial refused_text
-  trial-refused {x} e w =
-      let refuses : accept shut (Open job) ≡ refused x = rw n.shut at (refuses-so (rw e at st)) in
-      rw refuses w
-
 -- # Apply
-module _ {s : Session} {rule : List ℕ} {left : calls.Left Counts} (st : Stepped (Apply rule) s (apply_answer left.answer) [] left.session)
-    {out : List ℕ} {taken : ℕ} {after : List ℕ} where
-  pub apply-done : {n : Counts} → left.answer ≡ Ok n
-      → Writes (applied_text n (unpack_session left.session)) out taken after → Writes (apply_text (unpack_session s) rule) out taken after
+module _ {s : Session} {rule : List ℕ} {after : Session} where
+  apply-done : {n : Counts} → Stepped (Apply rule) s (apply_answer (Ok n)) [] after → applied_text n (unpack_session after) ≡ apply_text (unpack_session s) rule
   unfolding apply_text applied_text counts_text
-  apply-done e w =
-      let a = accepts-so (rw e at st) in
-      rw (a.1, a.2, a.3) w
+  apply-done st = let a = accepts-so st in rw (a.1, a.2, a.3) refl
 
-  pub apply-refused : {x : Refusal} → left.answer ≡ Err x
-      → Writes (refused_text x) out taken after → Writes (apply_text (unpack_session s) rule) out taken after
+  apply-refused : {x : Refusal} → Stepped (Apply rule) s (apply_answer (Err x)) [] after → refused_text x ≡ apply_text (unpack_session s) rule
   unfolding apply_text refused_text
-  apply-refused e w = rw (refuses-so (rw e at st)) w
+  apply-refused st = rw (refuses-so st) refl
+
+-- # Open and apply
+module _ {new : Session} (n : NewSession new) {job : List ℕ} (rule : List ℕ) where
+  pub open-tried : {x : Refusal} {after : Session} → Stepped (Open job) new (open_answer (Err x)) [] after → Tried job rule (Err x) after
+  unfolding trial refused_text
+  open-tried {x} st =
+      let refuses : accept shut (Open job) ≡ refused x = rw n.shut at (refuses-so st) in
+      record { text = rw refuses refl; stored = st.stored }
+
+  module _ {o : Opened} {s : Session} (st : Stepped (Open job) new (open_answer (Ok o)) [] s) where
+    opened-trial : trial job rule ≡ apply_text (unpack_session s) rule
+    unfolding trial apply_text
+    opened-trial =
+        let a = accepts-so st in
+        let opens = subst (λ r. accept r (Open job) ≡ accepted a.0) n.shut a.1 in
+        rw (opens, a.3) refl
+
+    pub apply-tried : {answer : Result Counts Refusal} {after : Session} → Stepped (Apply rule) s (apply_answer answer) [] after
+        → Tried job rule answer after
+    apply-tried {answer = Ok n} st = record { text = apply-done st ∙ sym opened-trial; stored = st.stored }
+    apply-tried {answer = Err x} st = record { text = apply-refused st ∙ sym opened-trial; stored = st.stored }
+
+-- what is told is what is printed
+module _ {job rule : List ℕ} {answer : Result Counts Refusal} {s : Session} (t : Tried job rule answer s)
+    {out : List ℕ} {taken : ℕ} {after : List ℕ} where
+  pub trial-done : {n : Counts} → answer ≡ Ok n
+      → Writes (applied_text n (unpack_session s)) out taken after → Writes (trial job rule) out taken after
+  trial-done e w = rw (← t.text, e) w
+
+  pub trial-refused : {x : Refusal} → answer ≡ Err x
+      → Writes (refused_text x) out taken after → Writes (trial job rule) out taken after
+  trial-refused e w = rw (← t.text, e) w
 
 -- # Save
 module _ {text buffer after : List ℕ} where

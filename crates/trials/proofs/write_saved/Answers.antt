@@ -7,4 +7,4 @@ returns c =
     let stored = c.requires.stored_session in
     let room = c.requires.most_of_drawing_in_bounds in
     rw c.unwrap_or.ensures
-    (file-written stored room c.save_value.result c.save_value.ensures, file-few stored room c.save_value.result c.save_value.ensures)
+    (file-written stored room c.save.result c.save.ensures, file-few stored room c.save.result c.save.ensures)

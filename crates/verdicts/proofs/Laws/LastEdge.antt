@@ -9,7 +9,7 @@ use Rattle.lists.proofs.Laws.Lists.{both, equals, same_truth}
 use Rattle.graph.specs.Packed.{unpack_triple}
 use Rattle.verdicts.specs.Verdicts.{shares_with, last_shares}
 
-shares-key : (a b : ℕ) → (eqb (a / 2 ^ 22) (b / 2 ^ 22) && eqb (a / 2 ^ 16 % 2 ^ 6) (b / 2 ^ 16 % 2 ^ 6)) ≡ eqb (a / 2 ^ 16) (b / 2 ^ 16)
+pub shares-key : (a b : ℕ) → (eqb (a / 2 ^ 22) (b / 2 ^ 22) && eqb (a / 2 ^ 16 % 2 ^ 6) (b / 2 ^ 16 % 2 ^ 6)) ≡ eqb (a / 2 ^ 16) (b / 2 ^ 16)
 shares-key a b =
     same_truth (eqb (a / 2 ^ 22) (b / 2 ^ 22) && eqb (a / 2 ^ 16 % 2 ^ 6) (b / 2 ^ 16 % 2 ^ 6)) (eqb (a / 2 ^ 16) (b / 2 ^ 16)) (
       (λ h. let r = simp (both, equals) at h in (equals (a / 2 ^ 16) (b / 2 ^ 16)).1 (omega arith)),

@@ -1,7 +1,6 @@
--- The next line of a text, as code finds it: it ends at the first byte 10 of what is left, and without one it is out of form.
-use Rattle.std.specs.Prelude.{ℕ, ◌+◌, ◌-◌, ◌<◌, ◌≤◌, ◌≡◌, List, [], ◌∷◌, length, take, drop, None, Some}
+-- The next line of a text, as a line of a format: it ends at the first byte 10 of what is left, and without one it is out of form.
+use Rattle.std.specs.Prelude.{ℕ, ◌+◌, ◌<◌, ◌≡◌, List, [], ◌∷◌, length, take, drop, Option, None, Some, option_map}
 use Rattle.std.proofs.Common.{arith, refl, ap, ◌∙◌, sym, length-drop, length-take-le}
-use borrow.Author.Rules.{part_to_end}
 use Rattle.lists.specs.Text.{pieces}
 use Rattle.model.specs.Files.{Line, Format, line_of}
 use Rattle.model.proofs.Laws.Lines.{line-spelled}
@@ -10,29 +9,6 @@ use Rattle.numerals.specs.Laws.Scan.{up_to-bound}
 use Rattle.text.specs.Laws.Lines.{next-line, unended-line}
 use Rattle.verdicts.specs.NextLine.{lines_from, LineAt, NoLineAt, Unended, LineBytes}
 
--- # What is left of a text, up to the first byte 10
-module _ (text : List ℕ) (at : ℕ) (h : at < length text) where
-  abbrev rest : List ℕ
-  rest = take (length text - at) (drop at text)
-
-  rest-length : length rest ≡ length text - at
-  rest-length = ap length (part_to_end text at) ∙ length-drop at text
-
-  module _ {n : ℕ} (found : n ≡ up_to 10 rest) where
-    found_here : n ≡ up_to 10 (drop at text)
-    found_here = found ∙ ap (up_to 10) (part_to_end text at)
-
-    pub not-ended : length rest ≤ n → Unended text at
-    not-ended all = sym found_here ∙ (let bound = up_to-bound 10 rest in omega (arith, rest-length, length-drop at text))
-
-    pub line-bytes : n < length rest → LineBytes text at (take n rest)
-    line-bytes inside =
-        record {
-          bytes = ap (take n) (part_to_end text at) ∙ ap (λ m. take m (drop at text)) found_here;
-          ended = rw (length-take-le n rest (omega arith)) (omega (arith, rest-length));
-        }
-
--- # The line of a format
 module _ {K : Type 0} (f : Format K) (text : List ℕ) (at : ℕ) (h : at < length text) where
   pub unended-no-line : Unended text at → NoLineAt f text at
   unended-no-line u = record { rest = []; line = unended-line f text at (up_to 10 (drop at text)) h refl (omega (arith, u, length-drop at text)) }
@@ -59,3 +35,11 @@ module _ {K : Type 0} (f : Format K) (text : List ℕ) (at : ℕ) (h : at < leng
           later = omega arith;
           within = omega arith;
         }
+
+    -- what code reads of these bytes as a line of the format: it stands there, and the next line begins after it; or the line there is out of form
+    module _ {P : Type 0} (line_for : P → Line K) {read : Option P} (parsed : option_map line_for read ≡ line_of f (pieces 61 s)) where
+      pub next-line-read : {l : P} → read ≡ Some l → LineAt f text at (line_for l) (at + length s + 1)
+      next-line-read {l} is = line-here (line_for l) (ap (option_map line_for) (sym is) ∙ parsed)
+
+      pub no-line-read : read ≡ None → NoLineAt f text at
+      no-line-read none = out-of-form (ap (option_map line_for) (sym none) ∙ parsed)

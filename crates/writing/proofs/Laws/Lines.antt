@@ -1,9 +1,11 @@
 -- The lines of one kind, row by row, and those of all kinds, kind by kind: how long they are, and writing them each where the last one ended.
 -- By what is left: the lines of the rows from i on.
-use Rattle.std.specs.Prelude.{ℕ, ◌+◌, ◌-◌, ◌^◌, ◌<◌, ◌≤◌, ◌≡◌, List, [], ◌++◌, length, get_or, take, drop}
+use Rattle.std.specs.Prelude.{ℕ, ◌+◌, ◌-◌, ◌^◌, ◌<◌, ◌≤◌, ◌≡◌, List, [], ◌∷◌, ◌++◌, sum_by, refl, length, get_or, take, drop}
 use Rattle.std.proofs.Common.{arith, add-one, ap, ◌∙◌, subst, append_assoc, append-nil, drop_of_length-le}
 use Rattle.std.proofs.Math.ListN.{length-append}
 use Rattle.std.proofs.Math.Seq.{drop-cons}
+use Rattle.std.proofs.lemmas.List.Sums.{sum_by-cons}
+use Rattle.lists.specs.Lists.{each}
 use Rattle.lists.specs.Buffers.{Writes, WritesFrom}
 use Rattle.lists.proofs.Laws.Buffers.{Unwritten, unwritten-all, part-inside, part-fits, unwritten-part, written_on, unwritten-none, written_from}
 use Rattle.model.specs.Meaning.{most_of_drawing}
@@ -25,6 +27,15 @@ module _ (kind : LineKind) (rows : List ℕ) where
   lines_none : (i : ℕ) → length rows ≤ i → lines_from i ≡ []
   unfolding rows_text
   lines_none i h = rw (drop_of_length-le rows {i = i} h)
+
+  -- how long they are, as a sum over the rows
+  pub rows-summed : sum_by (λ row. length (row_text kind row)) rows ≡ length (rows_text kind rows)
+  unfolding rows_text
+  rows-summed = all rows
+    where
+      all : (rs : List ℕ) → sum_by (λ row. length (row_text kind row)) rs ≡ length (each rs (row_text kind))
+      all [] = refl
+      all (r ∷ rs) = sum_by-cons (λ row. length (row_text kind row)) r rs ∙ omega (arith, all rs, length-append (row_text kind r) (each rs (row_text kind)))
 
 -- `count` bytes are the lines of i rows
 pub record Summed (kind : LineKind) (rows : List ℕ) (count i : ℕ) : Type 0 where

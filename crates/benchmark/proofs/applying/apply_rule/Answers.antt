@@ -3,8 +3,8 @@ use borrow.Author.Rules.{rules}
 use Rattle.benchmark.specs.ApplicationLaws.{drawing-unapplied, rule-stored}
 use Rattle.benchmark.proofs.applying.apply_rule.Goals as goal
 
-pub apply_over-requires-clause-stored_rule : goal.apply_over-requires-clause-stored_rule
-apply_over-requires-clause-stored_rule c = rule-stored c.in-Ok-read_rule.ensures
+pub apply_over-requires : goal.apply_over-requires
+apply_over-requires c = rule-stored c.in-Ok-read_rule.ensures
 
 pub returns-in-Err : goal.returns-in-Err
 returns-in-Err c = search (drawing-unapplied, rules)

@@ -6,5 +6,5 @@ use Rattle.edge_runs.proofs.Runs.any_has.Given as goal
 
 abbrev pub invariant-loop-i : goal.invariant-loop-i
 invariant-loop-i l =
-    any (has_targets l.self.edges.now l.self.name l.keys) l.self.numbers.now
-    ≡ any (has_targets l.self.edges.now l.self.name l.keys) (drop l.i l.self.numbers.now)
+    any (has_targets l.self.edges.keys.now l.self.name l.keys) l.self.numbers.now
+    ≡ any (has_targets l.self.edges.keys.now l.self.name l.keys) (drop l.i l.self.numbers.now)

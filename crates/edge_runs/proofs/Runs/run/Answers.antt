@@ -22,7 +22,7 @@ pub offset_bounds-self-self : goal.offset_bounds-self-self
 offset_bounds-self-self c =
     let self = c.args.self.now in
     let starts : get_or self.starts.now c.args.i 0 ≤ c.place-next.result = search (part-starts, rules) in
-    let ends : c.place-next.result ≤ length self.edges.now = search (part-ends, rules) in
+    let ends : c.place-next.result ≤ length self.edges.keys.now = search (part-ends, rules) in
     omega arith
 
 pub slice_bounds-result-count : goal.slice_bounds-result-count

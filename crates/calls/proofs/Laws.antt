@@ -1,0 +1,2 @@
+-- Laws of what the calls leave, in parts.
+pub mod Left

@@ -1,7 +1,0 @@
--- `calls::close_value` meets its contract: what is accepted or refused, settled, is a step. Assumes nothing.
-use borrow.Author.Rules.{rules}
-use Rattle.calls.specs.Laws.Settling.{settled-steps}
-use Rattle.calls.proofs.close_value.Goals as goal
-
-pub returns : goal.returns
-returns c = search (settled-steps, rules)

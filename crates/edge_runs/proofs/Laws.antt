@@ -1,0 +1,2 @@
+-- Laws of runs that the code doesn't need.
+pub mod Ends

@@ -1,0 +1,2 @@
+-- What is open after a drawing file.
+pub mod Opened

@@ -1,0 +1,2 @@
+-- Laws of node addition that the code doesn't need.
+pub mod Arms

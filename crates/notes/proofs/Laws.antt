@@ -1,0 +1,2 @@
+-- Laws of stored notes that the code doesn't need.
+pub mod Room

@@ -1,0 +1,2 @@
+-- Laws of the operations that the code doesn't need.
+pub mod Parts

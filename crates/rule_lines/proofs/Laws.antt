@@ -1,0 +1,2 @@
+-- Laws of rule lines that the code doesn't need.
+pub mod Numbers

@@ -1,0 +1,3 @@
+-- Laws of what a rule notes.
+pub mod Noted
+pub mod Listing
