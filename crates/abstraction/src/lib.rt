@@ -53,11 +53,11 @@ fn add_groups(
         (unpack_instance instance.old))
         result instance.new }
 {
-    let mut room = [0; PackedInstance::NODES];
+    let mut arms = [0; PackedInstance::NODES];
     // Kept: the place goes on to `arms_led_by`, which asks for the images before it.
     for i in 0..images.runs.numbers.len() {
-        let arms = images.arms_led_by(i, old.name, &mut room);
-        add_group(instance, class, arms, old)?;
+        let count = images.arms_led_by(i, old.name, &mut arms);
+        add_group(instance, class, &arms[..count], old)?;
     }
     Ok(())
 }
@@ -82,10 +82,10 @@ pub fn with_groups(
     let edges = Rising {
         keys: &before.edges[..before.size],
     };
-    let mut room = [0; PackedInstance::NODES];
-    let numbers = numbers_of(&before.nodes[..before.order], class, &mut room);
+    let mut numbers = [0; PackedInstance::NODES];
+    let count = numbers_of(&before.nodes[..before.order], class, &mut numbers);
     let mut starts = [0; PackedInstance::NODES];
-    let old = Runs::new(edges, numbers, b, &mut starts);
+    let old = Runs::new(edges, &numbers[..count], b, &mut starts);
     let mut starts = [0; PackedInstance::NODES];
     let runs = Runs::new(edges, images.keys, a, &mut starts);
     let images = Images { runs };

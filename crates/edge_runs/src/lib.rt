@@ -24,7 +24,7 @@ pub struct Runs<'e, 'n, 's> {
 
 // For each of the nodes, where its run of the name begins among the edges.
 // Kept: an index, since by `iter_mut` and `zip` the proof, which then has to tell what each borrowed place holds in the end, didn't close.
-fn find_starts(edges: Rising, numbers: &[u64], name: u64, starts: &mut [u64])
+pub fn find_starts(edges: Rising, numbers: &[u64], name: u64, starts: &mut [u64])
     requires below { Below (2 ^ 16) numbers.now }
     requires name_bound { name < 2 ^ 6 }
     requires numbers_in_bounds { length numbers.now ≤ length starts.old }
@@ -37,7 +37,7 @@ fn find_starts(edges: Rising, numbers: &[u64], name: u64, starts: &mut [u64])
 
 // Whether a run, which begins at `start`, has just these targets, each the lowest number of a key.
 // Kept: both are walked together, since `map(..).eq(..)` would ask for the run's end, which is a search of its own.
-fn targets_are(edges: Rising, run: u64, start: u64, keys: &[u64]) -> bool
+pub fn targets_are(edges: Rising, run: u64, start: u64, keys: &[u64]) -> bool
     requires run_bound { run < 2 ^ 22 }
     requires start_value { start ≡ place_of (run * 2 ^ 16) edges.keys.now }
     ensures { result ≡ same (targets_at edges.entry.keys.now run) (map lowest keys.now) }

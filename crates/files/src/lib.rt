@@ -1,7 +1,7 @@
 // Texts in files. What can't be read is told on standard error, and is never taken for an empty text.
 #![tactic(auto)]
 
-ghost use Rattle.std.specs.Prelude.{◌≡◌, ◌≤◌, ◌-◌, ◌^◌, length, IfOk, IfSome};
+ghost use Rattle.std.specs.Prelude.{◌≡◌, ◌≤◌, ◌+◌, ◌-◌, ◌^◌, length, IfOk, IfSome};
 ghost use Rattle.std.specs.Iterator.{at_most};
 
 use std::env::FillError;
@@ -68,6 +68,18 @@ pub fn load(rt: &(impl Files + Eprint), name: &[u8], text: &mut [u8]) -> Option<
         .ok()
 }
 
+// The length of an argument of the program, at the front of the buffer, or none where there is no such argument. One that is too long for the buffer
+// has the buffer's length, and names no file.
+pub fn argument(rt: &impl Env, i: usize, name: &mut [u8]) -> Option<usize>
+    ensures { IfSome result (λ n. n ≤ length name.new) }
+{
+    match rt.arg(i, name) {
+        Ok(length) => Some(length),
+        Err(FillError::TooLong) => Some(name.len()),
+        Err(FillError::NotPresent) => None,
+    }
+}
+
 // A name of a file has so many bytes at most, where a program asks for no more.
 pub const NAME: usize = 64;
 
@@ -96,7 +108,7 @@ impl<const ROOM: usize> Default for Name<ROOM> {
     }
 }
 
-// The arguments of the program, each of at most `ROOM` bytes, one after another.
+// The arguments of the program, each of at most `ROOM` bytes, one after another: none is passed over.
 #[derive(Drop)]
 pub struct Arguments<'a, E, const ROOM: usize> {
     rt: &'a E,
@@ -115,16 +127,14 @@ impl<'a, E: Env, const ROOM: usize> Arguments<'a, E, ROOM> {
 impl<'a, E: Env, const ROOM: usize> Iterator for Arguments<'a, E, ROOM> {
     type Item = Name<ROOM>;
 
+    ghost next_gives = { λ s r t. IfSome r (λ name. t.next ≡ s.next + 1) };
+
     ghost remaining = { λ s. at_most (2 ^ 64 - 1 - s.next) };
 
     fn next(&mut self) -> Option<Name<ROOM>> {
         let after = self.next.checked_add(1)?;
         let mut bytes = [0; ROOM];
-        let length = match self.rt.arg(self.next, &mut bytes) {
-            Ok(length) => length,
-            Err(FillError::TooLong) => ROOM,
-            Err(FillError::NotPresent) => return None,
-        };
+        let length = argument(self.rt, self.next, &mut bytes)?;
         self.next = after;
         Some(Name { bytes, length })
     }

@@ -12,7 +12,7 @@ use Rattle.graph.specs.declared.scheme.PackedScheme.{PackedScheme}
 use Rattle.graph.specs.declared.instance.PackedInstance.{PackedInstance}
 use Rattle.graph.specs.declared.pattern.PackedPattern.{PackedPattern}
 use Rattle.graph.specs.declared.rule.Operation.{Operation}
-use Rattle.graph.specs.declared.rule.Operation.TheVariants.{PatternOnly, NodeAddition, EdgeAddition, NodeDeletion, EdgeDeletion, Abstraction}
+use Rattle.graph.specs.declared.rule.Operation.TheVariants.{PatternOnly, NodeAddition, EdgeAddition, NodeDeletion, EdgeDeletion, Abstraction, Other}
 use Rattle.graph.specs.declared.rule.PackedAction.{PackedAction}
 use Rattle.graph.specs.declared.rule.PackedRule.{PackedRule}
 use Rattle.graph.specs.declared.history.History.{History}
@@ -110,6 +110,7 @@ action_of EdgeAddition head parts = add_edges (map unpack_triple parts)
 action_of NodeDeletion head parts = delete_node head
 action_of EdgeDeletion head parts = delete_edges (map unpack_triple parts)
 action_of Abstraction head parts = abstract (group_node head) (group_class head) (group_a head) (group_b head)
+action_of (Other number) head parts = pattern_only
 
 unfoldable pub unpack_action : PackedAction → Action
 unpack_action a = action_of a.operation a.head (take a.count a.parts)

@@ -14,10 +14,13 @@ pub enum Operation {
     NodeDeletion,
     EdgeDeletion,
     Abstraction,
+    // A number that is no operation's, so 6 or more (a smaller one counts as 6). A rule that is packed by hand may hold it; it means what `PatternOnly`
+    // means, and no rule text makes it.
+    Other(u64),
 }
 
 impl Operation {
-    // How many there are: a code is below this.
+    // How many a rule text has a code for: a code is below this.
     pub const CODES: u64 = 6;
 }
 
@@ -54,6 +57,7 @@ impl From<Operation> for u64 {
             Operation::NodeDeletion => 3,
             Operation::EdgeDeletion => 4,
             Operation::Abstraction => 5,
+            Operation::Other(number) => number.max(Operation::CODES),
         }
     }
 }

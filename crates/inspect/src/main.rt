@@ -3,7 +3,7 @@
 // file that was accepted.
 #![tactic(auto)]
 
-ghost use Rattle.std.specs.Prelude.{◌≡◌, ◌≤◌, take, IfOk};
+ghost use Rattle.std.specs.Prelude.{◌≡◌, ◌≤◌, take};
 ghost use Rattle.model.specs.Meaning.{most_of_drawing};
 ghost use Rattle.model.specs.Files.DrawingFile.{read_drawing};
 ghost use Rattle.inspect.specs.Opened.{OpenAfter};
@@ -88,24 +88,21 @@ fn print_opened(rt: &impl Print, whole: &Whole, text: &[u8]) -> io::Result<()> {
     println!(rt)
 }
 
-// What is open after the file: what it makes, or, where it is refused, what was open before.
-fn show_drawing(rt: &impl Print, text: &[u8], before: Whole) -> io::Result<Whole>
-    ensures { IfOk result (OpenAfter (read_drawing text.now) before) }
+// Opens the file: what it makes is open then, or, where it is refused, what was open before.
+fn show_drawing(rt: &impl Print, text: &[u8], current: &mut Whole) -> io::Result<()>
+    ensures { OpenAfter (read_drawing text.now) current.old current.new }
 {
     match read_drawing(text) {
         Ok(whole) => {
-            print_opened(rt, &whole, text)?;
-            Ok(whole)
+            *current = whole;
+            print_opened(rt, current, text)
         }
-        Err(refusal) => {
-            println!(rt; " refused={}", table::row(refusal))?;
-            Ok(before)
-        }
+        Err(refusal) => println!(rt; " refused={}", table::row(refusal)),
     }
 }
 
-fn show_rule(rt: &impl Print, text: &[u8], open: &Whole) -> io::Result<()> {
-    match read_rule(text, &open.scheme) {
+fn show_rule(rt: &impl Print, text: &[u8], current: &Whole) -> io::Result<()> {
+    match read_rule(text, &current.scheme) {
         Ok(rule) => {
             let PackedRule { pattern, action } = rule;
             print!(rt; " op={}", u64::from(action.operation))?;
@@ -116,27 +113,30 @@ fn show_rule(rt: &impl Print, text: &[u8], open: &Whole) -> io::Result<()> {
     }
 }
 
-// What is open after the file that is named.
-fn show_file(rt: &(impl Files + Print + Eprint), name: &[u8], open: Whole) -> io::Result<Whole> {
+// Opens the file that is named, or reads its rule text in the scheme that is open.
+fn show_file(
+    rt: &(impl Files + Print + Eprint),
+    name: &[u8],
+    current: &mut Whole,
+) -> io::Result<()> {
     let mut text = [0u8; ENOUGH];
     let Some(length) = load(rt, name, &mut text) else {
-        return Ok(open)
+        return Ok(())
     };
     // Kept: `write_all` and no `print!`, since a name is bytes and maybe no UTF-8.
     rt.write_all(name)?;
     if name.starts_with(b"r") {
-        show_rule(rt, &text[..length], &open)?;
-        Ok(open)
+        show_rule(rt, &text[..length], current)
     } else {
-        show_drawing(rt, &text[..length], open)
+        show_drawing(rt, &text[..length], current)
     }
 }
 
 fn main(rt: HostRuntime) -> io::Result<()> {
-    let mut open = Whole::new();
+    let mut current = Whole::new();
     let names: Arguments<_, NAME> = Arguments::new(&rt);
     for name in names {
-        open = show_file(&rt, name.bytes(), open)?;
+        show_file(&rt, name.bytes(), &mut current)?;
     }
     Ok(())
 }

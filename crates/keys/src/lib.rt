@@ -54,11 +54,18 @@ impl Rising<'_> {
         self.place_near(key, self.guess(key, unit))
     }
 
+    // Whether the key stands at its place.
+    fn stands(self, key: u64, at: usize) -> bool
+        requires { at ≡ place_of key self.keys.now }
+        ensures { result ≡ member self.entry.keys.now key }
+    {
+        at < self.keys.len() && self.keys[at] == key
+    }
+
     pub fn has(self, key: u64) -> bool
         ensures { result ≡ member self.entry.keys.now key }
     {
-        let at = self.place(key);
-        at < self.keys.len() && self.keys[at] == key
+        self.stands(key, self.place(key))
     }
 }
 
@@ -82,7 +89,7 @@ pub fn insert(keys: &mut [u64], count: usize, key: u64) -> usize
         keys: &keys[..count],
     };
     let at = standing.place(key);
-    if standing.has(key) {
+    if standing.stands(key, at) {
         return count;
     }
     keys.copy_within(at..count, at + 1);
@@ -101,7 +108,7 @@ pub fn remove(keys: &mut [u64], count: usize, key: u64) -> usize
         keys: &keys[..count],
     };
     let at = standing.place(key);
-    if !standing.has(key) {
+    if !standing.stands(key, at) {
         return count;
     }
     keys.copy_within(at + 1..count, at);

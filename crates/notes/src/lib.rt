@@ -2,8 +2,8 @@
 // found by halving. specs/Notes.antt says how keys are noted.
 #![tactic(auto)]
 
-ghost use Rattle.std.specs.Prelude.{◌≡◌, [], length};
-ghost use Rattle.notes.specs.Notes.{note, note_all, sorted};
+ghost use Rattle.std.specs.Prelude.{◌≡◌, ◌≤◌, [], length};
+ghost use Rattle.notes.specs.Notes.{most, note, note_all, sorted};
 
 use graph::instance::PackedInstance;
 use keys::{Rising, insert};
@@ -48,7 +48,8 @@ impl Notes {
 
     // How many keys are noted.
     pub fn count(&self) -> usize
-        ensures { result ≡ length self.now }
+        ensures counts { result ≡ length self.now }
+        ensures few { result ≤ most }
     {
         self.count
     }
@@ -60,9 +61,10 @@ impl Notes {
         &self.coming[..self.count]
     }
 
-    // The keys as they rise.
+    // The keys as they rise: as many, since each is noted once.
     pub fn rising(&self) -> Rising
-        ensures { result.keys.now ≡ sorted self.now }
+        ensures keys { result.keys.now ≡ sorted self.now }
+        ensures each_once { length result.keys.now ≡ length self.now }
     {
         Rising {
             keys: &self.rising[..self.count],

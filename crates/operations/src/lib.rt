@@ -35,7 +35,7 @@ fn finish(
 {
     let head = rule.action.head;
     match rule.action.operation {
-        Operation::PatternOnly => Ok(()),
+        Operation::PatternOnly | Operation::Other(_) => Ok(()),
         Operation::NodeAddition => {
             let parts = &rule.action.parts[..rule.action.count];
             with_nodes(instance, head, Arms { parts }, &notes.coming()[begun..])

@@ -6,9 +6,9 @@ ghost use Rattle.session.specs.Sessions.{StoredSession};
 
 use matcher::listing::Matching;
 use model::Refusal;
+use runs::{Kind, NUMBERS, perform};
 use script::{BUFFER, Call, Entries, Entry};
 use session::Session;
-use std::fmt::Display;
 use std::io;
 
 mod script;
@@ -16,11 +16,16 @@ mod script;
 // The most bytes that a script has.
 const SCRIPT: usize = 1048576;
 
-// What a call reports, or why it is refused.
-fn print_answer(rt: &impl Print, answer: Result<impl Display + Drop, Refusal>) -> io::Result<()> {
-    match answer {
-        Ok(report) => println!(rt; "done={report}"),
-        Err(refusal) => println!(rt; "refused={}", table::row(refusal)),
+// An answer of a call that changes the session, as its numbers: 0 and those of the report, or the refusal's number and what is returned.
+fn print_performed(rt: &impl Print, kind: Kind, numbers: [u64; NUMBERS]) -> io::Result<()> {
+    let [refusal, a, b, c, d, e] = numbers;
+    if refusal != 0 {
+        return println!(rt; "refused={refusal},{a}");
+    }
+    match kind {
+        Kind::Open => println!(rt; "done={a},{b}"),
+        Kind::Apply => println!(rt; "done={a},{b},{c},{d},{e}"),
+        Kind::Undo | Kind::Close => println!(rt; "done="),
     }
 }
 
@@ -36,11 +41,15 @@ fn print_matched(rt: &impl Print, given: Result<Option<Matching>, Refusal>) -> i
 fn print_saved(rt: &impl Print, session: &Session, buf: &mut [u8]) -> io::Result<()>
     requires { StoredSession session.now }
 {
-    let saved = queries::save(session, buf);
-    print_answer(rt, saved)?;
-    let length = saved.map_or(0, |length| length as usize);
-    // Kept: `write_all` and no `print!`, since the file is bytes in a buffer.
-    rt.write_all(&buf[..buf.len().min(length)])
+    match queries::save(session, buf) {
+        Ok(saved) => {
+            let length = saved as usize;
+            println!(rt; "done={length}")?;
+            // Kept: `write_all` and no `print!`, since the file is bytes in a buffer.
+            rt.write_all(&buf[..buf.len().min(length)])
+        }
+        Err(refusal) => println!(rt; "refused={}", table::row(refusal)),
+    }
 }
 
 // Makes a call, and prints its answer.
@@ -50,10 +59,7 @@ fn make(rt: &impl Print, session: &mut Session, entry: Entry) -> io::Result<()>
 {
     let text = entry.text;
     match entry.call {
-        Call::Open => print_answer(rt, calls::open(session, text)),
-        Call::Apply => print_answer(rt, calls::apply(session, text)),
-        Call::Undo => print_answer(rt, calls::undo(session).map(|()| "")),
-        Call::Close => print_answer(rt, calls::close(session).map(|()| "")),
+        Call::Change(kind) => print_performed(rt, kind, perform(session, kind as u8, text)),
         Call::First => print_matched(rt, queries::first(session, text)),
         Call::After(line) => {
             let list = &line.numbers[1..line.count];

@@ -1,9 +1,10 @@
 // A script of calls, from bytes to entries: each a line, and the text that follows it.
-ghost use Rattle.std.specs.Prelude.{◌≡◌, ◌<◌, ◌-◌, ◌≤◌, length, true, IfSome};
+ghost use Rattle.std.specs.Prelude.{◌≡◌, ◌<◌, ◌-◌, ◌≤◌, length, drop, true, IfSome, MatchResult};
 ghost use Rattle.std.specs.Iterator.{at_most};
-ghost use Rattle.replay.specs.Entries.{line_room, fits};
+ghost use Rattle.replay.specs.Entries.{line_room, fits, EntryAt};
 
 use graph::pattern::PackedPattern;
+use runs::Kind;
 
 // The longest buffer that a script may have lent to save.
 pub const BUFFER: usize = 65536;
@@ -19,13 +20,11 @@ pub struct Numbers {
     pub count: usize,
 }
 
-// The calls: after with the numbers of its line, of which those after the first are its list, and save with the length of its buffer.
+// The calls: one that changes the session; after with the numbers of its line, of which those after the first are its list; save with the length of
+// its buffer.
 #[derive(Clone, Copy)]
 pub enum Call {
-    Open,
-    Apply,
-    Undo,
-    Close,
+    Change(Kind),
     First,
     After(Numbers),
     Save(usize),
@@ -92,10 +91,10 @@ fn call_of(word: &[u8], line: Numbers) -> Option<Call>
 {
     let number = line.numbers[0];
     match (word, line.count) {
-        (b"open", 1) => Some(Call::Open),
-        (b"apply", 1) => Some(Call::Apply),
-        (b"undo", 0) => Some(Call::Undo),
-        (b"close", 0) => Some(Call::Close),
+        (b"open", 1) => Some(Call::Change(Kind::Open)),
+        (b"apply", 1) => Some(Call::Change(Kind::Apply)),
+        (b"undo", 0) => Some(Call::Change(Kind::Undo)),
+        (b"close", 0) => Some(Call::Change(Kind::Close)),
         (b"first", 1) => Some(Call::First),
         (b"after", 1..) => Some(Call::After(line)),
         (b"save", 1) if number <= BUFFER as u64 => Some(Call::Save(number as usize)),
@@ -105,7 +104,8 @@ fn call_of(word: &[u8], line: Numbers) -> Option<Call>
 
 // The first entry of a script, and what follows it.
 fn first_entry(script: &[u8]) -> Option<(Entry<'_>, &[u8])>
-    ensures { IfSome result (λ r. length r.1.now < length script.now) }
+    ensures shorter { IfSome result (λ r. length r.1.now < length script.now) }
+    ensures parts { IfSome result (λ r. EntryAt script.now r.0.text.now r.1.now) }
 {
     let end = script.iter().position(|byte| *byte == b'\n')?;
     let line = &script[..end];
@@ -133,6 +133,10 @@ impl<'a> Entries<'a> {
 
 impl<'a> Iterator for Entries<'a> {
     type Item = Result<Entry<'a>, usize>;
+
+    ghost next_gives = { λ s r t. (t.script.now ≡ s.script.now) × IfSome r (λ made. MatchResult made
+        (λ entry. EntryAt (drop s.at s.script.now) entry.text.now (drop t.at s.script.now))
+        (λ bad. (bad ≡ s.at) × (t.at ≡ length s.script.now))) };
 
     ghost remaining = { λ s. at_most (length s.script.now - s.at) };
 

@@ -6,7 +6,7 @@ use Rattle.keys.specs.Keys.{keys_rise}
 use Rattle.graph.specs.Packed.{group_node, Fits}
 use Rattle.graph.specs.declared.instance.PackedInstance.{PackedInstance}
 use Rattle.graph.specs.declared.rule.Operation.{Operation}
-use Rattle.graph.specs.declared.rule.Operation.TheVariants.{PatternOnly, NodeAddition, EdgeAddition, NodeDeletion, EdgeDeletion, Abstraction}
+use Rattle.graph.specs.declared.rule.Operation.TheVariants.{PatternOnly, NodeAddition, EdgeAddition, NodeDeletion, EdgeDeletion, Abstraction, Other}
 use Rattle.graph.specs.declared.rule.PackedAction.{PackedAction}
 use Rattle.notes.specs.Notes.{note_all}
 use Rattle.notes.specs.Visits.{edge_keys, joint_keys, node_keys, nothing}
@@ -25,6 +25,7 @@ noting_for EdgeAddition head parts = edge_keys parts
 noting_for NodeDeletion head parts = node_keys head
 noting_for EdgeDeletion head parts = edge_keys parts
 noting_for Abstraction head parts = node_keys (group_node head)
+noting_for (Other number) head parts = nothing
 
 unfoldable pub noting_of : PackedAction → (m : List ℕ) → List ℕ
 noting_of a = noting_for a.operation a.head (parts_of a)
@@ -37,6 +38,7 @@ begun_for PatternOnly head parts edges nodes = []
 begun_for NodeDeletion head parts edges nodes = []
 begun_for EdgeDeletion head parts edges nodes = []
 begun_for Abstraction head parts edges nodes = []
+begun_for (Other number) head parts edges nodes = []
 
 unfoldable pub begun : PackedInstance → PackedAction → List ℕ
 begun d a = begun_for a.operation a.head (parts_of a) (take d.size d.edges) (take d.order d.nodes)

@@ -21,7 +21,7 @@ pub fn noting(action: &PackedAction) -> Noting
 {
     let parts = &action.parts[..action.count];
     match action.operation {
-        Operation::PatternOnly => Noting::Nothing,
+        Operation::PatternOnly | Operation::Other(_) => Noting::Nothing,
         Operation::NodeAddition => Noting::Arms(Arms { parts }),
         Operation::EdgeAddition | Operation::EdgeDeletion => Noting::Edges(parts),
         Operation::NodeDeletion => Noting::Node(action.head),
@@ -51,7 +51,8 @@ pub fn begin(instance: &PackedInstance, action: &PackedAction) -> Notes
         Operation::PatternOnly
         | Operation::NodeDeletion
         | Operation::EdgeDeletion
-        | Operation::Abstraction => {}
+        | Operation::Abstraction
+        | Operation::Other(_) => {}
     }
     notes
 }

@@ -12,7 +12,7 @@ invariant-loop-i l =
     let images = l.images.runs.numbers.now in
     let old = l.old in
     record {
-      room : length l.room ≡ Limits.nodes;
+      room : length l.arms ≡ Limits.nodes;
       adding : Adding l.class images l.images.runs.name old.edges.keys.now old.numbers.now old.name
           (in_turn images (added_at l.class images l.images.runs.name old.edges.keys.now old.numbers.now old.name) (unpack_instance l.initial.instance))
           l.instance l.i;

@@ -9,7 +9,7 @@ begin-notes-requires c = search (able, rules)
 
 pub finish-changed-requires : goal.finish-changed-requires
 finish-changed-requires c =
-    all-walked _ _ _ c.requires.stored_instance c.requires.stored_rule _ _ _ _ _ c.begin-notes.ensures c.count-begun.ensures c.noting.ensures
+    all-walked _ _ _ c.requires.stored_instance c.requires.stored_rule _ _ _ _ _ c.begin-notes.ensures c.count-begun.ensures.counts c.noting.ensures
     c.visit_all-matchings.ensures
 
 pub returns : goal.returns

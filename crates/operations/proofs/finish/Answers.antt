@@ -2,7 +2,7 @@
 use Rattle.std.proofs.Common.{refl}
 use borrow.Author.Rules.{part_to_end, rules}
 use Rattle.operations.specs.Laws.Performed.{walked-able, walked-addable, walked-first, rising-sources, rising-numbers, rising-images, rising-few}
-use Rattle.operations.specs.Laws.Performed.{finish-nothing, finish-nodes, finish-edges, finish-without-nodes, finish-without-edges, finish-groups}
+use Rattle.operations.specs.Laws.Performed.{finish-nothing, finish-number, finish-nodes, finish-edges, finish-without-nodes, finish-without-edges, finish-groups}
 use Rattle.operations.proofs.finish.Goals as goal
 
 pub offset_bounds-coming-begun : goal.offset_bounds-coming-begun
@@ -42,7 +42,7 @@ pub with_groups-requires-clause-images_len_bound : goal.with_groups-requires-cla
 with_groups-requires-clause-images_len_bound c = search (rising-few, rules)
 
 pub returns-in-PatternOnly : goal.returns-in-PatternOnly
-returns-in-PatternOnly c = search (finish-nothing, rules)
+returns-in-PatternOnly c = search (finish-nothing, finish-number, rules)
 
 pub returns-in-NodeAddition : goal.returns-in-NodeAddition
 returns-in-NodeAddition c =

@@ -8,9 +8,10 @@ use Rattle.model.specs.Graph.{Instance}
 use Rattle.model.specs.Operations.{applied}
 use Rattle.model.specs.Refusals.{Outcome, accepted, refused}
 use Rattle.model.specs.declared.Refusal.{Refusal}
+use Rattle.graph.specs.Operations.{code_of}
 use Rattle.graph.specs.Packed.{unpack_scheme, unpack_instance, unpack_rule, group_class, group_a, group_b, StoredInstance, StoredRule}
 use Rattle.graph.specs.declared.instance.PackedInstance.{PackedInstance}
-use Rattle.graph.specs.declared.rule.Operation.TheVariants.{PatternOnly, NodeAddition, EdgeAddition, NodeDeletion, EdgeDeletion, Abstraction}
+use Rattle.graph.specs.declared.rule.Operation.TheVariants.{NodeAddition, EdgeAddition, NodeDeletion, EdgeDeletion, Abstraction}
 use Rattle.graph.specs.declared.rule.PackedAction.{PackedAction}
 use Rattle.graph.specs.declared.rule.PackedRule.{PackedRule}
 use Rattle.graph.specs.declared.scheme.PackedScheme.{PackedScheme}
@@ -22,8 +23,9 @@ use Rattle.edge_addition.specs.Joined.{SourcesIn, joined_to}
 use Rattle.deletion.specs.Deleted.{without_nodes, without_edges}
 use Rattle.abstraction.specs.Grouped.{grouped_to}
 use Rattle.rule_notes.specs.Noted.{parts_of, Able}
+use Rattle.rule_notes.specs.Laws.Listing.{OtherCode}
 use Rattle.operations.specs.Walked.{Walked}
-use Rattle.operations.specs.Laws.Performed.{finish-nodes, finish-edges, finish-without-nodes, finish-without-edges, finish-groups, finish-nothing}
+use Rattle.operations.specs.Laws.Performed.{finish-nodes, finish-edges, finish-without-nodes, finish-without-edges, finish-groups, made_other}
 use Rattle.operations.specs.Laws.Performed.{rising-sources, rising-numbers, rising-images, rising-few}
 
 module _ (s : PackedScheme) (d : PackedInstance) (r : PackedRule) (h : StoredInstance (unpack_scheme s) d) (k : StoredRule (unpack_scheme s) r) where
@@ -82,8 +84,8 @@ module _ {s : PackedScheme} {d : PackedInstance} {r : PackedRule} {first : ℕ} 
         → Makes (grouped_to (group_class r.action.head) (group_a r.action.head) (group_b r.action.head) (sorted log) (unpack_instance d)) v new → Makes made v new
     finish-5 = finish-groups w (sorted log) refl v new
 
-    pub finish-other : r.action.operation ≡ PatternOnly → Makes (accepted (unpack_instance d)) v new → Makes made v new
-    finish-other e m = record { fits = m.fits; makes = m.makes ∙ (finish-nothing w e).makes }
+    pub finish-other : OtherCode (code_of r.action.operation) → Makes (accepted (unpack_instance d)) v new → Makes made v new
+    finish-other o m = record { fits = m.fits; makes = m.makes ∙ made_other w.instance w.rule o }
 
   pub walked-sources : r.action.operation ≡ EdgeAddition → SourcesIn (unpack_instance d) (sorted log)
   walked-sources = rising-sources w (sorted log) refl

@@ -10,11 +10,13 @@ use Rattle.model.specs.Graph.{Scheme, Instance}
 use Rattle.model.specs.Operations.{abstract, applied, perform}
 use Rattle.model.specs.Matching.{matchings}
 use Rattle.model.specs.Refusals.{Outcome, accepted}
+use Rattle.graph.specs.Operations.{code_of}
 use Rattle.graph.specs.Packed.{unpack_scheme, unpack_instance, unpack_pattern, unpack_action, unpack_rule}
 use Rattle.graph.specs.Packed.{group_node, group_class, group_a, group_b, StoredInstance, StoredRule}
 use Rattle.model.specs.declared.Refusal.{Refusal}
 use Rattle.graph.specs.declared.instance.PackedInstance.{PackedInstance}
-use Rattle.graph.specs.declared.rule.Operation.TheVariants.{PatternOnly, NodeAddition, EdgeAddition, NodeDeletion, EdgeDeletion, Abstraction}
+use Rattle.graph.specs.declared.rule.Operation.{Operation}
+use Rattle.graph.specs.declared.rule.Operation.TheVariants.{PatternOnly, NodeAddition, EdgeAddition, NodeDeletion, EdgeDeletion, Abstraction, Other}
 use Rattle.graph.specs.declared.rule.PackedRule.{PackedRule}
 use Rattle.graph.specs.declared.scheme.PackedScheme.{PackedScheme}
 use Rattle.keys.specs.Keys.{keys_rise}
@@ -31,6 +33,7 @@ use Rattle.deletion.specs.Laws.Deletions.{node-deletion-noted, node-deletion-bel
 use Rattle.abstraction.specs.Grouped.{grouped_to}
 use Rattle.abstraction.specs.Laws.Leading.{abstraction-noted, images-below, images-few}
 use Rattle.rule_notes.specs.Noted.{parts_of, noting_of, begun, Able}
+use Rattle.rule_notes.specs.Laws.Listing.{OtherCode}
 use Rattle.operations.specs.Walked.{walked, Walked}
 use Rattle.operations.specs.Laws.Asked.{rule-of, sound-keys, able}
 
@@ -103,6 +106,25 @@ module _ {s : Scheme} {d : PackedInstance} {r : PackedRule} (h : StoredInstance 
   unfolding applied perform unpack_rule unpack_action
   made-0 e = rw e refl
 
+  -- a code that is none of these is a pattern only
+  pub made_other : OtherCode (code_of r.action.operation) → accepted (unpack_instance d) ≡ outcome
+  unfolding applied perform unpack_rule unpack_action
+  made_other o = go r.action.operation refl
+    where
+      go : (operation : Operation) → r.action.operation ≡ operation → accepted (unpack_instance d) ≡ outcome
+      go PatternOnly e = rw e refl
+      go NodeAddition e = absurd (o.not-1 (ap code_of e))
+      go EdgeAddition e = absurd (o.not-2 (ap code_of e))
+      go NodeDeletion e = absurd (o.not-3 (ap code_of e))
+      go EdgeDeletion e = absurd (o.not-4 (ap code_of e))
+      go Abstraction e = absurd (o.not-5 (ap code_of e))
+      go (Other number) e = rw e refl
+
+  -- so is each number that is no operation's
+  made-number : {number : ℕ} → r.action.operation ≡ Other number → accepted (unpack_instance d) ≡ outcome
+  unfolding applied perform unpack_rule unpack_action
+  made-number e = rw e refl
+
 -- # What the calls ask, and give, after a walk
 module _ {s : PackedScheme} {d : PackedInstance} {r : PackedRule} {first : ℕ} {log : List ℕ} (w : Walked s d r first log) where
   abbrev made : Outcome Instance
@@ -169,3 +191,6 @@ module _ {s : PackedScheme} {d : PackedInstance} {r : PackedRule} {first : ℕ} 
 
   pub finish-nothing : r.action.operation ≡ PatternOnly → Makes made (Ok tt) d
   finish-nothing e = record { fits = walked-able.fits; makes = made-0 w.instance w.rule e }
+
+  pub finish-number : {number : ℕ} → r.action.operation ≡ Other number → Makes made (Ok tt) d
+  finish-number e = record { fits = walked-able.fits; makes = made-number w.instance w.rule e }

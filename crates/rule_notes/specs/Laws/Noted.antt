@@ -1,17 +1,19 @@
 -- What an action's parts and an instance's keys have room for, and what is noted by the operation.
 use Rattle.std.specs.Prelude.{ℕ, ◌^◌, ◌≤◌, ◌≡◌, refl, List, [], length, take}
-use Rattle.std.proofs.Common.{arith, sym, length-take-le}
+use Rattle.std.proofs.Common.{arith, ap, sym, length-take-le}
 use Rattle.lists.specs.Lists.{Below}
 use Rattle.model.specs.Limits
+use Rattle.graph.specs.Operations.{code_of}
 use Rattle.graph.specs.Packed.{group_node}
 use Rattle.graph.specs.declared.instance.PackedInstance.{PackedInstance}
 use Rattle.graph.specs.declared.rule.Operation.{Operation}
-use Rattle.graph.specs.declared.rule.Operation.TheVariants.{PatternOnly, NodeAddition, EdgeAddition, NodeDeletion, EdgeDeletion, Abstraction}
+use Rattle.graph.specs.declared.rule.Operation.TheVariants.{PatternOnly, NodeAddition, EdgeAddition, NodeDeletion, EdgeDeletion, Abstraction, Other}
 use Rattle.graph.specs.declared.rule.PackedAction.{PackedAction}
 use Rattle.notes.specs.Notes.{note_all}
 use Rattle.notes.specs.Visits.{edge_keys, joint_keys, node_keys, nothing}
 use Rattle.serving.specs.Served.{served_keys}
 use Rattle.rule_notes.specs.Noted.{parts_of, noting_of, begun, Able}
+use Rattle.rule_notes.specs.Laws.Listing.{OtherCode}
 
 -- # What is asked
 module _ {d : PackedInstance} {a : PackedAction} (able : Able d a) where
@@ -44,9 +46,18 @@ module _ (a : PackedAction) (few : a.count ≤ Limits.arms) (room : length a.par
 
 -- # What is noted at a matching
 module _ (a : PackedAction) {keys : List ℕ → List ℕ} where
-  pub notes-nothing : a.operation ≡ PatternOnly → keys ≡ nothing → keys ≡ noting_of a
+  pub notes-nothing : OtherCode (code_of a.operation) → keys ≡ nothing → keys ≡ noting_of a
   unfolding noting_of
-  notes-nothing e h = rw e h
+  notes-nothing o h = go a.operation refl
+    where
+      go : (operation : Operation) → a.operation ≡ operation → keys ≡ noting_of a
+      go PatternOnly e = rw e h
+      go NodeAddition e = absurd (o.not-1 (ap code_of e))
+      go EdgeAddition e = absurd (o.not-2 (ap code_of e))
+      go NodeDeletion e = absurd (o.not-3 (ap code_of e))
+      go EdgeDeletion e = absurd (o.not-4 (ap code_of e))
+      go Abstraction e = absurd (o.not-5 (ap code_of e))
+      go (Other number) e = rw e h
 
   pub notes-arms : a.operation ≡ NodeAddition → keys ≡ joint_keys (parts_of a) → keys ≡ noting_of a
   unfolding noting_of
@@ -90,3 +101,4 @@ module _ (d : PackedInstance) (a : PackedAction) {log : List ℕ} where
       go NodeDeletion e = rw e h
       go EdgeDeletion e = rw e h
       go Abstraction e = rw e h
+      go (Other number) e = rw e h

@@ -3,6 +3,8 @@
 use Rattle.std.specs.Prelude.{ℕ, zero, suc, ◌/◌, ◌%◌, ◌^◌, ◌<◌, ◌≤◌, ◌≡◌, refl, true, false, ◌&&◌, List, [], ◌∷◌, ◌++◌, map, length, get_or, eqb, Option, Some}
 use Rattle.std.proofs.Common.{arith, ap, ap₂, ◌∙◌, sym, append-nil}
 use Rattle.std.proofs.Math.Bool.{or-false}
+use Rattle.std.proofs.Math.Nat.{le-max_right}
+use Rattle.std.proofs.lemmas.List.{get_or_past}
 use Rattle.std.proofs.lemmas.Simd.{map-map}
 use Rattle.std.proofs.lemmas.Bool.{eqb-false}
 use Rattle.lists.specs.Lists.{any, ◌!◌}
@@ -16,7 +18,7 @@ use Rattle.model.specs.InForm.{code_of}
 use Rattle.graph.specs.Operations.{code_of as code_of_operation}
 use Rattle.graph.specs.Packed.{unpack_triple, unpack_arm, unpack_pattern_nodes, pattern_of, action_of as packed_action}
 use Rattle.graph.specs.declared.rule.Operation.{Operation}
-use Rattle.graph.specs.declared.rule.Operation.TheVariants.{PatternOnly, NodeAddition, EdgeAddition, NodeDeletion, EdgeDeletion, Abstraction}
+use Rattle.graph.specs.declared.rule.Operation.TheVariants.{PatternOnly, NodeAddition, EdgeAddition, NodeDeletion, EdgeDeletion, Abstraction, Other}
 use Rattle.rules.specs.Rules.{Parts}
 use Rattle.rules.specs.Laws.RuleRows.{fields, Rows, turn, HasRows, last_row, gathered}
 
@@ -84,6 +86,7 @@ action-coded EdgeAddition nodes edges head parts = refl
 action-coded NodeDeletion nodes edges head parts = refl
 action-coded EdgeDeletion nodes edges head parts = refl
 action-coded Abstraction nodes edges head parts = refl
+action-coded (Other number) nodes edges head parts = sym (search (get_or_past, le-max_right))
 
 -- "Op, make, drop and group stand once", and action lines under their own code
 pub record Ruled (rows : Rows) : Type 0 where

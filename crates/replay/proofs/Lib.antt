@@ -1,0 +1,2 @@
+-- Where entries stand in their script.
+pub mod Entries
